@@ -1,0 +1,7 @@
+-- In range the table tells it, and no row is out of range.
+use Rattle.book.proofs.TablesTell.{playing-told}
+use Rattle.book.proofs.tables.playing.plays.Needs as need
+
+pub returns-then-p-lt-POSTS : need.returns-then-p-lt-POSTS
+returns-then-p-lt-POSTS c rows exact =
+    playing-told rows (c .args .table .now) exact (c .args .person .0) (c .args .post .0) (c .if-p-lt-POSTS .taken .0) (c .if-p-lt-POSTS .taken .1)

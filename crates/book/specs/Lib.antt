@@ -1,0 +1,14 @@
+pub mod Words
+pub mod Keys
+pub mod Entries
+pub mod Layouts
+pub mod Causes
+pub mod Form
+pub mod Rules
+pub mod Flags
+pub mod Covering
+pub mod Passing
+pub mod Playing
+pub mod Books
+pub mod Over
+pub mod Least

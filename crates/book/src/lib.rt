@@ -1,0 +1,31 @@
+// A book: who there is and who may do what, read from words and written to them.
+mod book;
+mod checks;
+mod faults;
+mod form;
+mod judging;
+mod keys;
+mod layout;
+mod rows;
+mod sizes;
+mod tables;
+mod words;
+
+pub use book::Book;
+pub use book::reads::read;
+pub use book::rereads::reread;
+pub use book::writes::write;
+pub use checks::Refusal;
+pub use faults::AllocFault;
+pub use faults::BookFault;
+pub use faults::RefusalFault;
+pub use keys::Key;
+pub use rows::Clash;
+pub use rows::Cover;
+pub use rows::Entry;
+pub use rows::Lot;
+pub use rows::Person;
+pub use rows::Play;
+pub use rows::Post;
+pub use rows::Rows;
+pub use rows::Step;
