@@ -10,8 +10,9 @@ ghost use Rattle.std.specs.Vec.{made};
 ghost use Rattle.book.specs.Covering.{Covers, Covering-exact, Steps-in-range, Tells-covering};
 ghost use Rattle.book.specs.Flags.{Clear, Grows, unset};
 ghost use Rattle.book.specs.Passing.{All-passed, Only-passed, Only-selves, Row-passed, Selves, Sound};
-use super::super::rows::Cover;
-use super::super::rows::Step;
+use super::place;
+use crate::rows::Cover;
+use crate::rows::Step;
 use std::alloc::AllocError;
 use std::alloc::Global;
 
@@ -99,7 +100,7 @@ pub(crate) fn covers(table: &[bool], stronger: Step, weaker: Step) -> bool
     let a = stronger.0 as usize;
     let b = weaker.0 as usize;
     if a < STEPS && b < STEPS {
-        table[a * STEPS + b]
+        table[place(a, b)]
     } else {
         a == b
     }

@@ -7,9 +7,10 @@ ghost use Rattle.std.specs.Orderings.{Decides};
 ghost use Rattle.std.specs.Vec.{made};
 ghost use Rattle.book.specs.Flags.{Clear};
 ghost use Rattle.book.specs.Playing.{Playing-exact, Plays, Plays-in-range, Tells-playing};
-use super::super::rows::Person;
-use super::super::rows::Play;
-use super::super::rows::Post;
+use super::place;
+use crate::rows::Person;
+use crate::rows::Play;
+use crate::rows::Post;
 use std::alloc::AllocError;
 use std::alloc::Global;
 
@@ -48,5 +49,5 @@ pub(crate) fn plays(table: &[bool], person: Person, post: Post) -> bool
 {
     let u = person.0 as usize;
     let p = post.0 as usize;
-    u < PEOPLE && p < POSTS && table[u * POSTS + p]
+    u < PEOPLE && p < POSTS && table[place(u, p)]
 }
