@@ -29,3 +29,4 @@ pub use rows::Play;
 pub use rows::Post;
 pub use rows::Rows;
 pub use rows::Step;
+pub use sizes::MOST_BYTES;

@@ -16,6 +16,9 @@ use crate::words::Words;
 /// How many sizes a book begins with.
 pub(crate) const SIZES: usize = 8;
 
+/// How many bytes a sound book has at most.
+pub const MOST_BYTES: usize = 38_976;
+
 // People have 24 marks.
 const MARKS: u64 = 16_777_216;
 

@@ -1,4 +1,4 @@
-// What the program is given: its arguments and the file.
+// What the program is given: its arguments.
 ghost use mathlib.Core.Path.{_≡_};
 ghost use Rattle.std.specs.Options.{Cases};
 ghost use Rattle.book_show.specs.declared.input.Kind.{Kind};
@@ -6,13 +6,6 @@ ghost use Rattle.book_show.specs.Kinds.{name};
 use crate::failure::Failure;
 use crate::failure::FailureFromIo;
 use std::env;
-use std::fs::File;
-use std::io;
-use std::io::ErrorKind;
-use std::io::Read;
-
-// A sound book has at most 38,976 bytes; with one byte more it is known to be too long.
-const MOST_BYTES: u64 = 38_977;
 
 /// The line whose book it is, which says what its strengths are.
 #[derive(Clone, Copy)]
@@ -43,20 +36,4 @@ pub fn arguments(rt: &LibcRuntime) -> Result<(String, Kind), Failure> {
         Some(kind) => Ok((path, kind)),
         None => Err(Failure::Usage),
     }
-}
-
-/// The first bytes of the file, none where there is no such file.
-pub fn file_or_none(rt: &LibcRuntime, path: &str) -> io::Result<Vec<u8>> {
-    let mut bytes = Vec::new(rt.alloc());
-    match File::open(rt, path) {
-        Ok(file) => {
-            file.take(MOST_BYTES).read_to_end(&mut bytes)?;
-        }
-        Err(fault) => {
-            if fault.kind() != ErrorKind::NotFound {
-                return Err(fault);
-            }
-        }
-    }
-    Ok(bytes)
 }

@@ -8,12 +8,13 @@ mod sections;
 mod show;
 mod strengths;
 
+use book::MOST_BYTES;
 use failure::Failure;
 use failure::FailureDisplay;
 use failure::FailureFromIo;
+use files::file_or_none;
 use input::Kind;
 use input::arguments;
-use input::file_or_none;
 use show::show;
 use strength::Band;
 use strength::BandHalf;
@@ -28,7 +29,7 @@ use strengths::ReachDescribe;
 
 fn run(rt: &LibcRuntime) -> Result<(), Failure> {
     let (path, kind) = arguments(rt)?;
-    let bytes = file_or_none(rt, path.as_str())?;
+    let bytes = file_or_none(rt, path.as_str(), MOST_BYTES as u64 + 1)?;
     match kind {
         Kind::Press => show::<Reach>(rt, &bytes),
         Kind::Malaxer => show::<Pair<Reach, Band>>(rt, &bytes),

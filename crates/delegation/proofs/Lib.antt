@@ -1,0 +1,3 @@
+mod Searches
+mod Judged
+mod Ranges

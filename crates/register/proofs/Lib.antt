@@ -1,0 +1,4 @@
+mod Answering
+mod Searches
+mod Sweeps
+mod Telling

@@ -1,0 +1,9 @@
+pub mod Grammar
+pub mod Fields
+pub mod Parsed
+pub mod Wrote
+pub mod Output
+pub mod Faults
+pub mod Replied
+pub mod Lines
+pub mod Runs
