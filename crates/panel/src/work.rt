@@ -18,6 +18,7 @@ use files::file_or_none;
 use files::input;
 use register::Record;
 use register::Register;
+use script::Fault;
 use script::LONGEST_SCRIPT;
 use script::run;
 use script::tell_refusal;
@@ -87,9 +88,9 @@ fn printed<S: Strength>(rt: &LibcRuntime, path: &str, filler: S) -> Result<Vec<u
             let output = answers(rt.alloc(), &book, &script, filler)?;
             Ok(output)
         }
-        Err(BookFault::Refused((number, place))) => {
+        Err(BookFault::Refused(refusal)) => {
             let mut output = Vec::new(rt.alloc());
-            tell_refusal(number, place, &mut output)?;
+            tell_refusal(Fault::OfBook(refusal), &mut output)?;
             Ok(output)
         }
         Err(BookFault::Memory) => Err(Failure::Memory),

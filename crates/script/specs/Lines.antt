@@ -9,6 +9,7 @@ use Rattle.std.specs.declared.option.Option.the-variants.{Some, None}
 use Rattle.std.specs.declared.result.Result.{Result}
 use Rattle.std.specs.declared.result.Result.the-variants.{Ok, Err}
 use Rattle.strength.specs.Kind.{Kind}
+use Rattle.register.specs.Replies.{wording}
 use Rattle.register.specs.Shape.{Called}
 use Rattle.register.specs.declared.calls.Call.{Call}
 use Rattle.register.specs.declared.calls.Reply.{Reply}
@@ -32,9 +33,9 @@ abbrev pub Asked : {S : Type 0} → Kind S → Result Call (ℕ × ℕ) → Regi
 Asked k (Err f) before r after = (r ≡ Err (OfScript f)) × (after ≡ before)
 Asked k (Ok call) before r after = (e : Reply) × Called k call e before after × (r ≡ heard e)
 
--- the output line, with the line's number
+-- the output line, with the line's number: an answer in the words of its reply, or the refusal of whichever layer
 abbrev pub spoken : ℕ → Result ℕ Fault → List ℕ
-spoken n (Ok answer) = line-of n (codes "ok") (answer ∷ [])
+spoken n (Ok answer) = line-of n (wording (Answer answer) .0) (wording (Answer answer) .1)
 spoken n (Err f) = line-of n (codes "no") (number-of f ∷ place-of f ∷ [])
 
 -- the fault that a line met

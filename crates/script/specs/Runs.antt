@@ -3,15 +3,15 @@ use Prim.Native.Nat.{ℕ, _+_, _≤_, _<_}
 use mathlib.Core.List.{List, [], _∷_, _++_}
 use mathlib.Core.Logic.{_⊎_}
 use mathlib.Core.Path.{_≡_}
-use lib.Chars.{codes}
 use lib.ListN.{length}
 use Rattle.std.specs.declared.result.Result.{Result}
+use Rattle.std.specs.declared.result.Result.the-variants.{Err}
 use Rattle.strength.specs.Kind.{Kind}
 use Rattle.register.specs.declared.register.Register.{Register}
 use Rattle.script.specs.declared.faults.Fault.{Fault}
+use Rattle.script.specs.declared.faults.Fault.the-variants.{OfScript}
 use Rattle.script.specs.Grammar.{lines}
 use Rattle.script.specs.Lines.{Asked, spoken}
-use Rattle.script.specs.Output.{line-of}
 use Rattle.script.specs.Parsed.{parsed}
 
 -- the lines, counted from n, are asked one after another, and their output lines stand one after another
@@ -24,7 +24,7 @@ pub data Ran {S : Type 0} (k : Kind S) : ℕ → Register S → List (List ℕ) 
 pub record Too-long {S : Type 0} (script : List ℕ) (before : Register S) (held : List ℕ) (after : Register S) (held′ : List ℕ) : Type 0 where
   pub long : 65536 < length script
   pub same : after ≡ before
-  pub told : held′ ≡ held ++ line-of 0 (codes "no") (44 ∷ 65536 ∷ [])
+  pub told : held′ ≡ held ++ spoken 0 (Err (OfScript (44, 65536)))
 
 -- every line of any other is obeyed
 pub record Ran-lines {S : Type 0} (k : Kind S) (script : List ℕ) (before : Register S) (held : List ℕ) (after : Register S) (held′ : List ℕ) : Type 0 where

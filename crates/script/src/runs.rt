@@ -1,15 +1,16 @@
 // A whole script.
-ghost use mathlib.Core.List.{[], _++_, _∷_};
+ghost use mathlib.Core.List.{_++_};
 ghost use mathlib.Core.Path.{_≡_};
 ghost use Prim.Native.Nat.{_≤_, _<_};
 ghost use denote.Ref.{name};
-ghost use lib.Chars.{codes};
 ghost use lib.ListN.{length};
 ghost use Rattle.std.specs.Of.Vec.{vec-items};
 ghost use Rattle.std.specs.Vec.{made};
-ghost use Rattle.script.specs.Output.{line-of};
+ghost use Rattle.std.specs.declared.result.Result.the-variants.{Err as Refused};
+ghost use Rattle.script.specs.Lines.{spoken};
 ghost use Rattle.script.specs.Runs.{Ran-line, Ran-script};
 use crate::cuts::next_line;
+use crate::faults::Fault;
 use crate::lines::LINE_BUFFER;
 use crate::lines::answer_line;
 use crate::output::write_line;
@@ -27,12 +28,13 @@ fn append(output: &mut Vec<u8>, text: &[u8]) -> Result<(), AllocError>
     output.extend_from_slice(text)
 }
 
-/// Appends the one line that says that a whole script, or its book, is refused.
-pub fn tell_refusal(number: u8, place: usize, output: &mut Vec<u8>) -> Result<(), AllocError>
-    ensures { λ r. ⌜ made r (λ _. vec-items (now (output .exit)) ≡ vec-items (now (output .entry)) ++ line-of 0 (codes "no") (number ∷ place ∷ [])) ⌝ }
+/// Appends the one line that says that a whole script, or its book, is refused: line 0.
+pub fn tell_refusal(fault: Fault, output: &mut Vec<u8>) -> Result<(), AllocError>
+    ensures { λ r. ⌜ made r (λ _. vec-items (now (output .exit)) ≡ vec-items (now (output .entry)) ++ spoken 0 (Refused fault)) ⌝ }
 {
     let mut buffer = [0u8; LINE_BUFFER];
-    let length = write_line(&mut buffer, 0, b"no", &[number as u64, place as u64]);
+    let numbers = [fault.number() as u64, fault.place() as u64];
+    let length = write_line(&mut buffer, 0, b"no", &numbers);
     append(output, &buffer[0..length])
 }
 
@@ -65,7 +67,7 @@ pub fn run<'b, 'g, 'r, S: Strength>(
     ensures recorder { λ _. ⌜ name (now (register .exit) .records .places) ≡ name (now (register .entry) .records .places) ⌝ }
 {
     if script.len() > LONGEST_SCRIPT {
-        return tell_refusal(44, LONGEST_SCRIPT, output);
+        return tell_refusal(Fault::OfScript((44, LONGEST_SCRIPT)), output);
     }
     let mut buffer = [0u8; LINE_BUFFER];
     let mut rest = script;
