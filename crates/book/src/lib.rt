@@ -1,4 +1,6 @@
-// A book: who there is and who may do what, read from words and written to them.
+//! A book: who there is and who may do what, read from words and written to them.
+#![tactic(auto)]
+
 mod book;
 mod checks;
 mod faults;

@@ -1,4 +1,6 @@
-// Shows a book as a person wants to read it, or says why it is refused.
+//! Shows a book as a person wants to read it, or says why it is refused.
+#![tactic(auto)]
+
 mod failure;
 mod faults;
 mod input;

@@ -1,4 +1,6 @@
-// Tests of books: what is read, refused, written and made of rows.
+//! Tests of books: what is read, refused, written and made of rows.
+#![tactic(auto)]
+
 #[cfg(test)]
 mod copies;
 #[cfg(test)]

@@ -1,4 +1,6 @@
-// Rights, grants and what backs them.
+//! Rights, grants and what backs them.
+#![tactic(auto)]
+
 mod bars;
 mod chains;
 mod grants;

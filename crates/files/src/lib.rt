@@ -1,4 +1,6 @@
-// Files and standard input, read no further than a limit, so that no input exhausts memory.
+//! Files and standard input, read no further than a limit, so that no input exhausts memory.
+#![tactic(auto)]
+
 use std::fs::File;
 use std::io;
 use std::io::{ErrorKind, Read};

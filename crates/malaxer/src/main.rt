@@ -1,4 +1,6 @@
-// The malaxer line: rights are held with a reach and a band of temperatures.
+//! The malaxer line: rights are held with a reach and a band of temperatures.
+#![tactic(auto)]
+
 use panel::{Failure, serve};
 use strength::{Band, Count, Marks, Pair, Reach, Tenths};
 

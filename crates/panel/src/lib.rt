@@ -1,4 +1,6 @@
-// A line's whole work: the book from its file, the script from standard input, the answers to standard output.
+//! A line's whole work: the book from its file, the script from standard input, the answers to standard output.
+#![tactic(auto)]
+
 mod failure;
 mod work;
 

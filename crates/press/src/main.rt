@@ -1,4 +1,6 @@
-// The press line: rights are held with a reach.
+//! The press line: rights are held with a reach.
+#![tactic(auto)]
+
 use panel::{Failure, serve};
 use strength::{Count, Marks, Reach};
 

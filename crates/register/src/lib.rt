@@ -1,5 +1,7 @@
-// A register of grants: lots are opened and closed, rights are passed on, and people ask what they
-// are entitled to.
+//! A register of grants: lots are opened and closed, rights are passed on, and people ask what they
+//! are entitled to.
+#![tactic(auto)]
+
 mod calls;
 mod checks;
 mod faults;

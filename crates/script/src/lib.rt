@@ -1,4 +1,6 @@
-// The script layer: lines, fields, calls, output lines.
+//! The script layer: lines, fields, calls, output lines.
+#![tactic(auto)]
+
 mod cuts;
 mod digits;
 mod faults;

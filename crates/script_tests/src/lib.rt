@@ -1,4 +1,6 @@
-// Tests of scripts: how lines are read, and what the calls answer.
+//! Tests of scripts: how lines are read, and what the calls answer.
+#![tactic(auto)]
+
 #[cfg(test)]
 mod arrays;
 #[cfg(test)]

@@ -1,4 +1,6 @@
-// Kinds of strength: how far a right goes, and what is left of it when it is passed on.
+//! Kinds of strength: how far a right goes, and what is left of it when it is passed on.
+#![tactic(auto)]
+
 mod examples;
 mod kinds;
 mod values;

@@ -52,13 +52,13 @@ impl Band {
 impl Strength for Band {
     ghost kind = { band_kind };
 
-    ghost reflexive = { first_of (Prim.search rules, Prim.grind (arith, Self.row.coded.inj)) };
+    ghost reflexive = { Prim.search rules };
 
-    ghost transitive = { first_of (Prim.search rules, Prim.grind (arith, Self.row.coded.inj)) };
+    ghost transitive = { Prim.search rules };
 
     ghost antisymmetric = { band_antisymmetric };
 
-    ghost decreasing = { first_of (Prim.search rules, Prim.grind (arith, Self.row.coded.inj)) };
+    ghost decreasing = { Prim.search rules };
 
     ghost monotone = { band_monotone };
 
@@ -66,7 +66,7 @@ impl Strength for Band {
 
     ghost keeps_word = { band_keeps_word };
 
-    ghost bounded = { first_of (Prim.search rules, Prim.grind (arith, Self.row.coded.inj)) };
+    ghost bounded = { Prim.search rules };
 
     fn at_least(self, other: Band) -> bool {
         self.dominates(other)
@@ -88,13 +88,13 @@ impl Strength for Band {
 impl Half for Band {
     ghost half = { band_kind };
 
-    ghost reflexive = { first_of (Prim.search rules, Prim.grind (arith, Self.row.coded.inj)) };
+    ghost reflexive = { Prim.search rules };
 
-    ghost transitive = { first_of (Prim.search rules, Prim.grind (arith, Self.row.coded.inj)) };
+    ghost transitive = { Prim.search rules };
 
     ghost antisymmetric = { band_antisymmetric };
 
-    ghost decreasing = { first_of (Prim.search rules, Prim.grind (arith, Self.row.coded.inj)) };
+    ghost decreasing = { Prim.search rules };
 
     ghost monotone = { band_monotone };
 
@@ -102,7 +102,7 @@ impl Half for Band {
 
     ghost keeps_word = { band_keeps_word };
 
-    ghost short = { first_of (Prim.search rules, Prim.grind (arith, Self.row.coded.inj)) };
+    ghost short = { Prim.search rules };
 
     fn half_at_least(self, other: Band) -> bool {
         self.dominates(other)

@@ -111,7 +111,7 @@ impl Strength for Reach {
 
     ghost keeps_word = { reach_keeps_word };
 
-    ghost bounded = { first_of (Prim.search rules, Prim.grind (arith, Self.row.coded.inj)) };
+    ghost bounded = { Prim.search rules };
 
     fn at_least(self, other: Reach) -> bool {
         self.dominates(other)
@@ -147,7 +147,7 @@ impl Half for Reach {
 
     ghost keeps_word = { reach_keeps_word };
 
-    ghost short = { first_of (Prim.search rules, Prim.grind (arith, Self.row.coded.inj)) };
+    ghost short = { Prim.search rules };
 
     fn half_at_least(self, other: Reach) -> bool {
         self.dominates(other)
