@@ -40,7 +40,7 @@ pub(crate) fn check_sizes(sizes: &[u64], limits: &[Limit]) -> Result<(), Refusal
 
 /// What a test finds wrong with a word, 0 for nothing.
 fn judge<S: Strength>(test: Test, word: u64) -> u8
-    ensures { result ≡ cause kind test word }
+    ensures { result ≡ cause S.kind test word }
 {
     match test {
         Test::Below(limit) => { if word < limit { 0 } else { 4 } }
@@ -64,8 +64,8 @@ pub(crate) fn check_column<S: Strength, W: Words>(
     place: usize,
     test: Test,
 ) -> Result<(), Refusal>
-    requires { place + length (listed column) < 2 ^ 64 }
-    ensures { result_err result ≡ first (cause kind test) place (listed column) }
+    requires { place + length (W.listed column) < 2 ^ 64 }
+    ensures { result_err result ≡ first (cause S.kind test) place (W.listed column) }
 {
     for i in 0..column.count() {
         let fault = judge::<S>(test, column.word(i));
@@ -96,7 +96,7 @@ pub(crate) fn check_columns<S: Strength>(
 ) -> Result<(), Refusal>
     requires room { start + total columns.now ≤ length words.now }
     requires fits { length words.now < 2 ^ 64 }
-    ensures { result_err result ≡ in_columns kind columns.now start (drop start (map word_of words.now)) }
+    ensures { result_err result ≡ in_columns S.kind columns.now start (drop start (map word_of words.now)) }
 {
     let mut place = start;
     for i in 0..columns.len() {

@@ -30,7 +30,7 @@ pub(crate) fn check_form(sizes: Sizes) -> Result<usize, Refusal>
 
 /// The sizes of a sound book, or the first refusal.
 pub(crate) fn check<S: Strength>(bytes: &[u8]) -> Result<Sizes, Refusal>
-    ensures fault { result_err result ≡ refusal kind bytes.now }
+    ensures fault { result_err result ≡ refusal S.kind bytes.now }
     ensures sizes { IfOk result (λ s. (s ≡ sizes_of (words bytes.now)) × Small s × (length bytes.now ≡ due s)) }
 {
     if bytes.len() < 8 * SIZES {

@@ -67,14 +67,14 @@ impl Words for MarkWords<'_> {
 
 fn first_at<R: Row>(rows: &[R], at: usize) -> u64
     requires { at < length rows.now }
-    ensures { result ≡ slice_index (map layout.first_word rows.now) at }
+    ensures { result ≡ slice_index (map R.layout.first_word rows.now) at }
 {
     rows[at].first_word()
 }
 
 fn second_at<R: Row>(rows: &[R], at: usize) -> u64
     requires { at < length rows.now }
-    ensures { result ≡ slice_index (map layout.second_word rows.now) at }
+    ensures { result ≡ slice_index (map R.layout.second_word rows.now) at }
 {
     rows[at].second_word()
 }

@@ -12,7 +12,7 @@ use strength::Strength;
 
 /// Whether the granted right gives the one that the bar names.
 fn gives_barred<S: Strength>(book: &Book<S>, grant: Grant<S>, bar: Entry<S>) -> bool
-    ensures { Decides result (Gives kind (rules book.now) grant.right (right_of bar)) }
+    ensures { Decides result (Gives S.kind (rules book.now) grant.right (right_of bar)) }
 {
     gives(
         book,
@@ -34,7 +34,7 @@ fn receiver_plays<S: Strength>(book: &Book<S>, grant: Grant<S>, post: Post) -> b
 /// The place of the first bar that forbids a grant: the receiver plays its post, and the granted
 /// right gives the one that it names.
 pub fn first_bar<S: Strength>(book: &Book<S>, grant: Grant<S>) -> Option<usize>
-    ensures { MatchOption result (NoneOf (Forbids kind (rules book.now) grant) book.now.rows.bars.items) (First (Forbids kind (rules book.now) grant) book.now.rows.bars.items) }
+    ensures { MatchOption result (NoneOf (Forbids S.kind (rules book.now) grant) book.now.rows.bars.items) (First (Forbids S.kind (rules book.now) grant) book.now.rows.bars.items) }
 {
     let rows = book.rows();
     let bars = rows.bars.as_slice();

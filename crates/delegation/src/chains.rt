@@ -21,7 +21,7 @@ pub(crate) enum Source<S> {
 
 /// Whether a grant may come next after the source.
 fn leads<S: Strength>(book: &Book<S>, source: Source<S>, grant: Grant<S>) -> bool
-    ensures { Decides result (Leads kind (rules book.now) source grant) }
+    ensures { Decides result (Leads S.kind (rules book.now) source grant) }
 {
     match source {
         Source::Posts => heads(book, grant),
@@ -44,7 +44,7 @@ fn reach<S: Strength>(
     requires room { length grants.now ≤ length seen.old }
     requires fits { length seen.old ≤ length queue.old }
     requires queued { Queued (length grants.now) seen.old queue.old start }
-    ensures reached { Reached kind (rules book.now) source grants.now gone.now (length grants.now) seen.old seen.new }
+    ensures reached { Reached S.kind (rules book.now) source grants.now gone.now (length grants.now) seen.old seen.new }
     ensures queued { Queued (length grants.now) seen.new queue.new result }
     ensures longer { Longer start queue.old result queue.new }
 {
@@ -71,7 +71,7 @@ fn reach<S: Strength>(
 pub fn chained<S: Strength>(book: &Book<S>, grants: &[Grant<S>], gone: &[bool]) -> [bool; 512]
     requires few { length grants.now ≤ 512 }
     requires flags { length grants.now ≤ length gone.now }
-    ensures { ChainsFlagged kind (rules book.now) grants.now gone.now result }
+    ensures { ChainsFlagged S.kind (rules book.now) grants.now gone.now result }
 {
     let mut seen = [false; MOST_GRANTS];
     let mut queue = [0; MOST_GRANTS];

@@ -12,7 +12,7 @@ use strength::{Marks, Strength};
 /// Whether a right gives another: its step covers the other's, and its strength is at least the
 /// other's.
 pub fn gives<S: Strength>(book: &Book<S>, right: Right<S>, other: Right<S>) -> bool
-    ensures { Decides result (Gives kind (rules book.now) right other) }
+    ensures { Decides result (Gives S.kind (rules book.now) right other) }
 {
     if !book.covers(right.step, other.step) {
         return false;
@@ -22,7 +22,7 @@ pub fn gives<S: Strength>(book: &Book<S>, right: Right<S>, other: Right<S>) -> b
 
 /// The marks of a person; somebody who is not in the book has none.
 fn marks_of<S: Strength>(book: &Book<S>, person: Person) -> Marks
-    ensures { result.0 ≡ marks_of_lem kind (rules book.now) person }
+    ensures { result.0 ≡ marks_of_lem S.kind (rules book.now) person }
 {
     let marks = book.rows().marks.as_slice();
     if person.0 < marks.len() as u64 {
@@ -34,7 +34,7 @@ fn marks_of<S: Strength>(book: &Book<S>, person: Person) -> Marks
 /// Whether a right backs a grant: its step covers the granted one, and its strength becomes at
 /// least the granted one when it is passed on to the receiver.
 pub fn backs<S: Strength>(book: &Book<S>, right: Right<S>, grant: Grant<S>) -> bool
-    ensures { Decides result (Backs kind (rules book.now) right grant) }
+    ensures { Decides result (Backs S.kind (rules book.now) right grant) }
 {
     if !book.covers(right.step, grant.right.step) {
         return false;
@@ -47,7 +47,7 @@ pub fn backs<S: Strength>(book: &Book<S>, right: Right<S>, grant: Grant<S>) -> b
 
 /// Whether the giver plays the post of a row, and the right in it backs the grant.
 fn row_heads<S: Strength>(book: &Book<S>, row: Entry<S>, grant: Grant<S>) -> bool
-    ensures { Decides result (HeadRow kind (rules book.now) grant row) }
+    ensures { Decides result (HeadRow S.kind (rules book.now) grant row) }
 {
     if !book.plays(grant.giver, row.key.post()) {
         return false;
@@ -64,7 +64,7 @@ fn row_heads<S: Strength>(book: &Book<S>, row: Entry<S>, grant: Grant<S>) -> boo
 
 /// Whether a right that the giver holds by post backs the grant.
 pub fn heads<S: Strength>(book: &Book<S>, grant: Grant<S>) -> bool
-    ensures { Decides result ((p : Right S) × Heads kind (rules book.now) p grant) }
+    ensures { Decides result ((p : Right S) × Heads S.kind (rules book.now) p grant) }
 {
     let holds = book.rows().holds.as_slice();
     for row in holds {
@@ -77,7 +77,7 @@ pub fn heads<S: Strength>(book: &Book<S>, grant: Grant<S>) -> bool
 
 /// Whether the receiver of an earlier grant gives this one, and the earlier right backs it.
 pub fn supports<S: Strength>(book: &Book<S>, earlier: Grant<S>, grant: Grant<S>) -> bool
-    ensures { Decides result (Supports kind (rules book.now) earlier grant) }
+    ensures { Decides result (Supports S.kind (rules book.now) earlier grant) }
 {
     if earlier.receiver.0 != grant.giver.0 {
         return false;

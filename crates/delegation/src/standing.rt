@@ -14,7 +14,7 @@ use strength::Strength;
 
 /// Whether an earlier grant supports this one on its lot.
 fn supports_on<S: Strength>(book: &Book<S>, earlier: Grant<S>, grant: Grant<S>) -> bool
-    ensures { Decides result (SupportOn kind (rules book.now) grant earlier) }
+    ensures { Decides result (SupportOn S.kind (rules book.now) grant earlier) }
 {
     if earlier.lot.0 != grant.lot.0 {
         return false;
@@ -24,7 +24,7 @@ fn supports_on<S: Strength>(book: &Book<S>, earlier: Grant<S>, grant: Grant<S>) 
 
 /// Whether some grant does.
 fn supported<S: Strength>(book: &Book<S>, grants: &[Grant<S>], grant: Grant<S>) -> bool
-    ensures { Decides result (SomeOf (SupportOn kind (rules book.now) grant) grants.now) }
+    ensures { Decides result (SomeOf (SupportOn S.kind (rules book.now) grant) grants.now) }
 {
     for earlier in grants {
         if supports_on(book, *earlier, grant) {
@@ -37,7 +37,7 @@ fn supported<S: Strength>(book: &Book<S>, grants: &[Grant<S>], grant: Grant<S>) 
 /// Whether a right that the giver has on the lot, by post or by one of these grants, backs the
 /// grant.
 pub fn backed<S: Strength>(book: &Book<S>, grants: &[Grant<S>], grant: Grant<S>) -> bool
-    ensures { Decides result (Backed kind (rules book.now) grants.now grant) }
+    ensures { Decides result (Backed S.kind (rules book.now) grants.now grant) }
 {
     if heads(book, grant) {
         return true;
@@ -47,7 +47,7 @@ pub fn backed<S: Strength>(book: &Book<S>, grants: &[Grant<S>], grant: Grant<S>)
 
 /// Whether the person plays the post of a row, and the right in it gives this one.
 fn row_gives<S: Strength>(book: &Book<S>, row: Entry<S>, person: Person, right: Right<S>) -> bool
-    ensures { Decides result (GiveRow kind (rules book.now) person right row) }
+    ensures { Decides result (GiveRow S.kind (rules book.now) person right row) }
 {
     if !book.plays(person, row.key.post()) {
         return false;
@@ -64,7 +64,7 @@ fn row_gives<S: Strength>(book: &Book<S>, row: Entry<S>, person: Person, right: 
 
 /// Whether a right that the person holds by post gives this one.
 fn by_post<S: Strength>(book: &Book<S>, person: Person, right: Right<S>) -> bool
-    ensures { Decides result ((p : Right S) × Holds kind (rules book.now) person p × Gives kind (rules book.now) p right) }
+    ensures { Decides result ((p : Right S) × Holds S.kind (rules book.now) person p × Gives S.kind (rules book.now) p right) }
 {
     let holds = book.rows().holds.as_slice();
     for row in holds {
@@ -83,7 +83,7 @@ fn grant_gives<S: Strength>(
     right: Right<S>,
     lot: Lot,
 ) -> bool
-    ensures { Decides result (GiveOn kind (rules book.now) person right lot grant) }
+    ensures { Decides result (GiveOn S.kind (rules book.now) person right lot grant) }
 {
     if grant.lot.0 != lot.0 {
         return false;
@@ -102,7 +102,7 @@ fn by_grant<S: Strength>(
     right: Right<S>,
     lot: Lot,
 ) -> bool
-    ensures { Decides result (SomeOf (GiveOn kind (rules book.now) person right lot) grants.now) }
+    ensures { Decides result (SomeOf (GiveOn S.kind (rules book.now) person right lot) grants.now) }
 {
     for grant in grants {
         if grant_gives(book, *grant, person, right, lot) {
@@ -121,7 +121,7 @@ pub fn entitled<S: Strength>(
     right: Right<S>,
     lot: Lot,
 ) -> bool
-    ensures { Decides result (Entitled kind (rules book.now) grants.now person right lot) }
+    ensures { Decides result (Entitled S.kind (rules book.now) grants.now person right lot) }
 {
     if by_post(book, person, right) {
         return true;
@@ -147,7 +147,7 @@ fn same_numbers<S: Strength>(a: Grant<S>, b: Grant<S>) -> bool
 
 /// Whether two strengths have the same word.
 fn same_word<S: Strength>(a: S, b: S) -> bool
-    ensures { Decides result (kind.word a ≡ kind.word b) }
+    ensures { Decides result (S.kind.word a ≡ S.kind.word b) }
 {
     a.word() == b.word()
 }

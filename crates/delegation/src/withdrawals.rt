@@ -46,7 +46,7 @@ pub fn chained_beside<S: Strength>(
     named: Grant<S>,
 ) -> [bool; 512]
     requires { length grants.now ≤ 512 }
-    ensures { FlagsOf (Chained kind (rules book.now) (Beside grants.now named)) grants.now result }
+    ensures { FlagsOf (Chained S.kind (rules book.now) (Beside grants.now named)) grants.now result }
 {
     let gone = flag_apart(grants, named);
     chained(book, grants, &gone)

@@ -82,7 +82,7 @@ fn check_naming<S: Strength>(
     lot: Lot,
 ) -> Result<S, Refusal>
     requires { place ≤ 2 }
-    ensures { Checks (naming kind (rules book.now) lots.now place step word lot) (λ s. kind.of_word word ≡ Some s) result }
+    ensures { Checks (naming S.kind (rules book.now) lots.now place step word lot) (λ s. S.kind.of_word word ≡ Some s) result }
 {
     if step.0 >= book.rows().steps {
         return Err((11, place));
@@ -116,7 +116,7 @@ pub(crate) fn check_asking<S: Strength>(
     word: u64,
     lot: Lot,
 ) -> Result<S, Refusal>
-    ensures { Checks (asking kind (rules book.now) lots.now person step word lot) (λ s. kind.of_word word ≡ Some s) result }
+    ensures { Checks (asking S.kind (rules book.now) lots.now person step word lot) (λ s. S.kind.of_word word ≡ Some s) result }
 {
     if is_nobody(book, person) {
         return Err((10, 0));
@@ -134,7 +134,7 @@ pub(crate) fn check_passing<S: Strength>(
     word: u64,
     lot: Lot,
 ) -> Result<S, Refusal>
-    ensures { Checks (passing kind (rules book.now) lots.now giver receiver step word lot) (λ s. kind.of_word word ≡ Some s) result }
+    ensures { Checks (passing S.kind (rules book.now) lots.now giver receiver step word lot) (λ s. S.kind.of_word word ≡ Some s) result }
 {
     if is_nobody(book, giver) {
         return Err((10, 0));

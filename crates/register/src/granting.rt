@@ -13,7 +13,7 @@ use strength::Strength;
 
 /// The place of the first bar that forbids a grant.
 fn first_forbidding<S: Strength>(book: &Book<S>, grant: Grant<S>) -> Option<usize>
-    ensures { MatchOption result ((p : ℕ) → First (Forbids kind (rules book.now) grant) (rules book.now).bars p → ⊥) (First (Forbids kind (rules book.now) grant) (rules book.now).bars) }
+    ensures { MatchOption result ((p : ℕ) → First (Forbids S.kind (rules book.now) grant) (rules book.now).bars p → ⊥) (First (Forbids S.kind (rules book.now) grant) (rules book.now).bars) }
 {
     first_bar(book, grant)
 }
@@ -24,7 +24,7 @@ fn check_backing<S: Strength>(
     grants: &[Grant<S>],
     grant: Grant<S>,
 ) -> Result<(), Refusal>
-    ensures { Checks (backing kind (rules book.now) grants.now grant) (λ _. Backed kind (rules book.now) grants.now grant) result }
+    ensures { Checks (backing S.kind (rules book.now) grants.now grant) (λ _. Backed S.kind (rules book.now) grants.now grant) result }
 {
     if grant.giver.0 == grant.receiver.0 {
         return Err((17, 0));
@@ -42,7 +42,7 @@ fn check_joining<S: Strength>(
     grant: Grant<S>,
 ) -> Result<(), Refusal>
     requires { length grants.now ≤ 512 }
-    ensures { Checks (joining kind (rules book.now) grants.now grant) (λ _. length grants.now < 512) result }
+    ensures { Checks (joining S.kind (rules book.now) grants.now grant) (λ _. length grants.now < 512) result }
 {
     if let Some(bar) = first_forbidding(book, grant) {
         return Err((19, bar));
@@ -63,7 +63,7 @@ pub(crate) fn check_granting<S: Strength>(
     grant: Grant<S>,
 ) -> Result<(), Refusal>
     requires { length grants.now ≤ 512 }
-    ensures { Checks (granting kind (rules book.now) grants.now grant) (λ _. Backed kind (rules book.now) grants.now grant × (length grants.now < 512)) result }
+    ensures { Checks (granting S.kind (rules book.now) grants.now grant) (λ _. Backed S.kind (rules book.now) grants.now grant × (length grants.now < 512)) result }
 {
     check_backing(book, grants, grant)?;
     check_joining(book, grants, grant)

@@ -35,7 +35,7 @@ fn ask<'b, 'g, 'r, S: Strength>(
     register: &mut Register<'b, 'g, 'r, S>,
     line: &[u8],
 ) -> Result<u64, Fault>
-    ensures asked { Asked kind (parsed line.now) register.old result register.new }
+    ensures asked { Asked S.kind (parsed line.now) register.old result register.new }
     ensures lender { register.new.grants.places.ghost_name ≡ register.old.grants.places.ghost_name }
     ensures recorder { register.new.records.places.ghost_name ≡ register.old.records.places.ghost_name }
 {
@@ -52,7 +52,7 @@ pub(crate) fn answer_line<'b, 'g, 'r, S: Strength>(
     out: &mut [u8],
 ) -> Told
     requires { 1200 ≤ length out.old }
-    ensures obeyed { Obeyed kind number line.now register.old out.old result register.new out.new }
+    ensures obeyed { Obeyed S.kind number line.now register.old out.old result register.new out.new }
     ensures lender { register.new.grants.places.ghost_name ≡ register.old.grants.places.ghost_name }
     ensures recorder { register.new.records.places.ghost_name ≡ register.old.records.places.ghost_name }
 {
@@ -90,7 +90,7 @@ pub fn obey_line<'b, 'g, 'r, S: Strength>(
     line: &[u8],
     out: &mut [u8],
 ) -> Result<Told, LineFault>
-    ensures taken { Taken kind number line.now register.old out.old result register.new out.new }
+    ensures taken { Taken S.kind number line.now register.old out.old result register.new out.new }
     ensures lender { register.new.grants.places.ghost_name ≡ register.old.grants.places.ghost_name }
     ensures recorder { register.new.records.places.ghost_name ≡ register.old.records.places.ghost_name }
 {

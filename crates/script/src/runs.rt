@@ -40,7 +40,7 @@ fn run_line<'b, 'g, 'r, S: Strength>(
     output: &mut Vec<u8>,
 ) -> Result<(), AllocError>
     requires { 1200 ≤ length buffer.old }
-    ensures ran { OnOk result (RanLine kind number line.now register.old output.old.items register.new output.new.items) }
+    ensures ran { OnOk result (RanLine S.kind number line.now register.old output.old.items register.new output.new.items) }
     ensures lender { register.new.grants.places.ghost_name ≡ register.old.grants.places.ghost_name }
     ensures recorder { register.new.records.places.ghost_name ≡ register.old.records.places.ghost_name }
 {
@@ -55,7 +55,7 @@ pub fn run<'b, 'g, 'r, S: Strength>(
     script: &[u8],
     output: &mut Vec<u8>,
 ) -> Result<(), AllocError>
-    ensures ran { OnOk result (RanScript kind script.now register.old output.old.items register.new output.new.items) }
+    ensures ran { OnOk result (RanScript S.kind script.now register.old output.old.items register.new output.new.items) }
     ensures lender { register.new.grants.places.ghost_name ≡ register.old.grants.places.ghost_name }
     ensures recorder { register.new.records.places.ghost_name ≡ register.old.records.places.ghost_name }
 {

@@ -20,8 +20,8 @@ use strength::{Marks, Strength};
 
 /// The marks that these words say.
 fn read_marks<W: Words>(heap: Global, words: W) -> Result<Vec<Marks>, AllocError>
-    requires { (j : ℕ) → j < length (listed words) → slice_index (listed words) j < 16777216 }
-    ensures { IfOk result (λ v. map (λ m. m.0) v.items ≡ listed words) }
+    requires { (j : ℕ) → j < length (W.listed words) → slice_index (W.listed words) j < 16777216 }
+    ensures { IfOk result (λ v. map (λ m. m.0) v.items ≡ W.listed words) }
 {
     let mut marks = Vec::new(heap);
     for i in 0..words.count() {
@@ -37,8 +37,8 @@ fn read_rows<R: Row, A: Words, B: Words>(
     seconds: B,
 ) -> Result<Vec<R>, AllocError>
     requires same { length (A.Words.listed firsts) ≡ length (B.Words.listed seconds) }
-    requires lawful { (j : ℕ) → j < length (A.Words.listed firsts) → is_some (layout.of_words (slice_index (A.Words.listed firsts) j) (slice_index (B.Words.listed seconds) j)) ≡ true }
-    ensures { IfOk result (λ v. (map layout.first_word v.items ≡ A.Words.listed firsts) × (map layout.second_word v.items ≡ B.Words.listed seconds)) }
+    requires lawful { (j : ℕ) → j < length (A.Words.listed firsts) → is_some (R.layout.of_words (slice_index (A.Words.listed firsts) j) (slice_index (B.Words.listed seconds) j)) ≡ true }
+    ensures { IfOk result (λ v. (map R.layout.first_word v.items ≡ A.Words.listed firsts) × (map R.layout.second_word v.items ≡ B.Words.listed seconds)) }
 {
     let mut rows = Vec::new(heap);
     for i in 0..firsts.count() {
@@ -58,8 +58,8 @@ fn read_table<R: Row>(
     size: u64,
 ) -> Result<Vec<R>, AllocError>
     requires room { place + 2 * size ≤ length words.now }
-    requires lawful { (j : ℕ) → j < size → is_some (layout.of_words (slice_index (map word_of words.now) (place + j)) (slice_index (map word_of words.now) (place + size + j))) ≡ true }
-    ensures { IfOk result (λ v. TableAt layout (map word_of words.now) place size v.items) }
+    requires lawful { (j : ℕ) → j < size → is_some (R.layout.of_words (slice_index (map word_of words.now) (place + j)) (slice_index (map word_of words.now) (place + size + j))) ≡ true }
+    ensures { IfOk result (λ v. TableAt R.layout (map word_of words.now) place size v.items) }
 {
     let middle = place + size as usize;
     let end = middle + size as usize;
@@ -74,11 +74,11 @@ fn read_all<S: Strength>(
     words: &[[u8; 8]],
     sizes: Sizes,
 ) -> Result<Rows<S>, AllocError>
-    requires sound { judged kind (due sizes) sizes (map word_of words.now) ≡ None }
+    requires sound { judged S.kind (due sizes) sizes (map word_of words.now) ≡ None }
     requires sizes { sizes ≡ sizes_of (map word_of words.now) }
     requires small { Small sizes }
     requires long { length words.now ≡ last_at sizes + sizes.clashes }
-    ensures { IfOk result (λ rows. (fits (said rows) ≡ true) × (words_in kind (said rows) ≡ map word_of words.now)) }
+    ensures { IfOk result (λ rows. (fits (said rows) ≡ true) × (words_in S.kind (said rows) ≡ map word_of words.now)) }
 {
     let Sizes {
         people,
@@ -115,8 +115,8 @@ fn read_all<S: Strength>(
 
 /// The book that these bytes say, or why they say none.
 pub fn read<S: Strength>(heap: Global, bytes: &[u8]) -> Result<Book<S>, BookFault>
-    ensures reads { Reads kind bytes.now result }
-    ensures first { FirstCause kind bytes.now }
+    ensures reads { Reads S.kind bytes.now result }
+    ensures first { FirstCause S.kind bytes.now }
 {
     let sizes = check::<S>(bytes)?;
     let (words, _none) = bytes.as_chunks::<8>();

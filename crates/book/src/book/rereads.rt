@@ -14,7 +14,7 @@ pub fn reread<S: Strength>(
     bytes: &[u8],
     copy: &mut [u8],
 ) -> Result<Book<S>, BookFault>
-    ensures { Rewrites kind bytes.now copy.old copy.new result }
+    ensures { Rewrites S.kind bytes.now copy.old copy.new result }
 {
     let book = read::<S>(heap, bytes)?;
     let _length = write(&book, copy)?;

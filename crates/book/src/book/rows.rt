@@ -27,7 +27,7 @@ fn check_table<S: Strength, R: Row>(
     other: Test,
 ) -> Result<(), Refusal>
     requires { place + 2 * length rows.now < 2 ^ 64 }
-    ensures { result_err result ≡ or_else (first (cause kind one) place (map layout.first_word rows.now)) (first (cause kind other) (place + length rows.now) (map layout.second_word rows.now)) }
+    ensures { result_err result ≡ or_else (first (cause S.kind one) place (map R.layout.first_word rows.now)) (first (cause S.kind other) (place + length rows.now) (map R.layout.second_word rows.now)) }
 {
     let firsts = check_column::<S, Firsts<R>>(Firsts(rows), place, one);
     let seconds = check_column::<S, Seconds<R>>(Seconds(rows), place + rows.len(), other);
@@ -44,7 +44,7 @@ fn check_clash_table<S: Strength>(
 ) -> Result<(), Refusal>
     requires ones { ones_at + length rows.now < 2 ^ 64 }
     requires others { others_at + length rows.now < 2 ^ 64 }
-    ensures { result_err result ≡ or_else (first (cause kind test) ones_at (map (λ p. p.one.0) rows.now)) (first (clash_cause steps) others_at (zip (map (λ p. p.one.0) rows.now) (map (λ p. p.other.0) rows.now))) }
+    ensures { result_err result ≡ or_else (first (cause S.kind test) ones_at (map (λ p. p.one.0) rows.now)) (first (clash_cause steps) others_at (zip (map (λ p. p.one.0) rows.now) (map (λ p. p.other.0) rows.now))) }
 {
     let ones = check_column::<S, Firsts<Clash>>(Firsts(rows), ones_at, test);
     let others = check_clashes(Firsts(rows), Seconds(rows), others_at, steps);
@@ -56,7 +56,7 @@ fn check_tables<S: Strength>(rows: &Rows<S>, sizes: Sizes, last: usize) -> Resul
     requires sizes { sizes ≡ sizes_in (said rows.now) }
     requires small { Small sizes }
     requires last { last ≡ last_at sizes }
-    ensures { result_err result ≡ or_else (in_columns kind (columns sizes) 8 (drop 8 (words_in kind (said rows.now)))) (in_clashes sizes (words_in kind (said rows.now))) }
+    ensures { result_err result ≡ or_else (in_columns S.kind (columns sizes) 8 (drop 8 (words_in S.kind (said rows.now)))) (in_clashes sizes (words_in S.kind (said rows.now))) }
 {
     let tests = columns_of(sizes);
     let plays_at = SIZES + sizes.people as usize;
@@ -80,7 +80,7 @@ fn check_tables<S: Strength>(rows: &Rows<S>, sizes: Sizes, last: usize) -> Resul
 
 /// Whether rows make a sound book; they are refused as the file is that they would be written to.
 fn check_rows<S: Strength>(rows: &Rows<S>) -> Result<(), Refusal>
-    ensures { result_err result ≡ rows_refusal kind (said rows.now) }
+    ensures { result_err result ≡ rows_refusal S.kind (said rows.now) }
 {
     let sizes = rows.sizes();
     let last = check_form(sizes)?;
@@ -90,7 +90,7 @@ fn check_rows<S: Strength>(rows: &Rows<S>) -> Result<(), Refusal>
 impl<S: Strength> Book<S> {
     /// The book of these rows, or why they make none.
     pub fn from_rows(heap: Global, rows: Rows<S>) -> Result<Book<S>, BookFault>
-        ensures { Makes kind (said rows) result }
+        ensures { Makes S.kind (said rows) result }
     {
         check_rows(&rows)?;
         let book = Book::index(heap, rows)?;

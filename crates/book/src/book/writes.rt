@@ -27,8 +27,8 @@ fn put_word(out: &mut [u8], place: usize, word: u64)
 
 /// Writes a column of words from this place on.
 fn put_column<W: Words>(out: &mut [u8], place: usize, column: W)
-    requires { place + 8 * length (listed column) ≤ length out.old }
-    ensures { out.new ≡ over out.old place (spelled (listed column)) }
+    requires { place + 8 * length (W.listed column) ≤ length out.old }
+    ensures { out.new ≡ over out.old place (spelled (W.listed column)) }
 {
     for i in 0..column.count() {
         put_word(out, place + 8 * i, column.word(i));
@@ -38,7 +38,7 @@ fn put_column<W: Words>(out: &mut [u8], place: usize, column: W)
 /// Writes the two columns of a table from this place on, and answers the place after them.
 fn put_table<R: Row>(out: &mut [u8], place: usize, rows: &[R]) -> usize
     requires { place + 16 * length rows.now ≤ length out.old }
-    ensures after { out.new ≡ over out.old place (spelled (flat layout rows.now)) }
+    ensures after { out.new ≡ over out.old place (spelled (flat R.layout rows.now)) }
     ensures value { result ≡ place + 16 * length rows.now }
 {
     let middle = place + 8 * rows.len();
@@ -75,8 +75,8 @@ impl<S> Rows<S> {
 
 /// Writes a book, and answers its length; a buffer that is too short is refused, and nothing is written.
 pub fn write<S: Strength>(book: &Book<S>, out: &mut [u8]) -> Result<usize, Refusal>
-    ensures writes { Writes kind (rules book.now) out.old out.new result }
-    ensures rereads { Rereads kind book.now }
+    ensures writes { Writes S.kind (rules book.now) out.old out.new result }
+    ensures rereads { Rereads S.kind book.now }
 {
     let sizes = book.rows.sizes();
     let due = due_length(sizes);

@@ -23,7 +23,7 @@ fn answer<S: Strength>(
     right: Right<S>,
     lot: Lot,
 ) -> u64
-    ensures { Says (Entitled kind (rules book.now) grants.now person right lot) result }
+    ensures { Says (Entitled S.kind (rules book.now) grants.now person right lot) result }
 {
     if entitled(book, grants, person, right, lot) {
         1
@@ -42,7 +42,7 @@ impl<'b, 'g, 'r, S: Strength> Register<'b, 'g, 'r, S> {
         word: u64,
         lot: Lot,
     ) -> Result<u64, RegisterFault>
-        ensures called { Called kind (Asks person step word lot) (reply result) self.old self.new }
+        ensures called { Called S.kind (Asks person step word lot) (reply result) self.old self.new }
         ensures lender { self.new.grants.places.ghost_name ≡ self.old.grants.places.ghost_name }
         ensures recorder { self.new.records.places.ghost_name ≡ self.old.records.places.ghost_name }
     {
@@ -62,7 +62,7 @@ impl<'b, 'g, 'r, S: Strength> Register<'b, 'g, 'r, S> {
         word: u64,
         lot: Lot,
     ) -> Result<u64, RegisterFault>
-        ensures called { Called kind (Grants giver receiver step word lot) (reply result) self.old self.new }
+        ensures called { Called S.kind (Grants giver receiver step word lot) (reply result) self.old self.new }
         ensures lender { self.new.grants.places.ghost_name ≡ self.old.grants.places.ghost_name }
         ensures recorder { self.new.records.places.ghost_name ≡ self.old.records.places.ghost_name }
     {

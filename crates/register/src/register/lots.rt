@@ -15,7 +15,7 @@ use strength::Strength;
 impl<'b, 'g, 'r, S: Strength> Register<'b, 'g, 'r, S> {
     /// Opens a lot, and answers 0.
     pub fn open_lot(&mut self, lot: Lot) -> Result<u64, RegisterFault>
-        ensures called { Called kind (Open lot) (reply result) self.old self.new }
+        ensures called { Called S.kind (Open lot) (reply result) self.old self.new }
         ensures lender { self.new.grants.places.ghost_name ≡ self.old.grants.places.ghost_name }
         ensures recorder { self.new.records.places.ghost_name ≡ self.old.records.places.ghost_name }
     {
@@ -43,7 +43,7 @@ impl<'b, 'g, 'r, S: Strength> Register<'b, 'g, 'r, S> {
 
     /// Closes a lot with all that lies on it, and answers how many grants that were.
     pub fn close_lot(&mut self, lot: Lot) -> Result<u64, RegisterFault>
-        ensures called { Called kind (Close lot) (reply result) self.old self.new }
+        ensures called { Called S.kind (Close lot) (reply result) self.old self.new }
         ensures lender { self.new.grants.places.ghost_name ≡ self.old.grants.places.ghost_name }
         ensures recorder { self.new.records.places.ghost_name ≡ self.old.records.places.ghost_name }
     {

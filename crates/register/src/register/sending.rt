@@ -26,9 +26,9 @@ impl<'b, 'g, 'r, S: Strength> Register<'b, 'g, 'r, S> {
     /// Makes a call. It is refused for the first cause that holds, and their numbers rise. A question
     /// is told yes exactly when that is due.
     pub fn send(&mut self, call: Call) -> Reply
-        ensures called { Called kind call result self.old self.new }
-        ensures told { ToldYes call result ↔ DueYes kind (rules self.old.book.now) (state_of self.old) call }
-        ensures rising { Rising (causes kind (rules self.old.book.now) (state_of self.old) call) }
+        ensures called { Called S.kind call result self.old self.new }
+        ensures told { ToldYes call result ↔ DueYes S.kind (rules self.old.book.now) (state_of self.old) call }
+        ensures rising { Rising (causes S.kind (rules self.old.book.now) (state_of self.old) call) }
         ensures lender { self.new.grants.places.ghost_name ≡ self.old.grants.places.ghost_name }
         ensures recorder { self.new.records.places.ghost_name ≡ self.old.records.places.ghost_name }
     {

@@ -9,7 +9,7 @@ loop-i-preserved g c =
     let vs = g.B.Words.listed c.args.others in
     let b : c.loop-i.i < length vs = omega (arith, c.count-i-end.ensures) in
     let a : c.loop-i.i < length us = omega arith in (
-      pair_more (clash_cause c.args.steps) c.args.place us vs c.loop-i.i 0 0 a b c.word.ensures c.word-in-loop-i.ensures (sym c.judge-clash-fault.ensures ∙ c.if-fault-ne0.false)
+      pair_more (clash_cause c.args.steps) c.args.place us vs c.loop-i.i 0 0 a b c.word.ensures c.word-in-loop-i.ensures (sym c.judge_clash-fault.ensures ∙ c.if-fault-ne0.false)
           ∙ c.loop-i.invariant.0,
       c.loop-i.invariant.1,
       c.loop-i.invariant.2,
@@ -21,7 +21,7 @@ returns-then-fault-ne0 g c =
     let vs = g.B.Words.listed c.args.others in
     let b : c.loop-i.i < length vs = omega (arith, c.count-i-end.ensures) in
     let a : c.loop-i.i < length us = omega arith in
-    sym (pair_here (clash_cause c.args.steps) c.args.place us vs c.loop-i.i 0 0 a b c.word.ensures c.word-in-loop-i.ensures c.judge-clash-fault.ensures c.if-fault-ne0.true)
+    sym (pair_here (clash_cause c.args.steps) c.args.place us vs c.loop-i.i 0 0 a b c.word.ensures c.word-in-loop-i.ensures c.judge_clash-fault.ensures c.if-fault-ne0.true)
     ∙ c.loop-i.invariant.0
 
 pub returns : goal.returns

@@ -12,11 +12,11 @@ use Rattle.book.proofs.checks.check_columns.Goals as goal
 abbrev none : Column
 none = record { test = Below 0; size = 0 }
 
-pub overflow-add-end : goal.overflow-add-end
-overflow-add-end g c = let t = total_more c.args.columns.now c.loop-i.i none c.loop-i-test.true in omega arith
+pub overflow_add-end : goal.overflow_add-end
+overflow_add-end g c = let t = total_more c.args.columns.now c.loop-i.i none c.loop-i-test.true in omega arith
 
-pub check-column-requires : goal.check-column-requires
-check-column-requires g c =
+pub check_column-requires : goal.check_column-requires
+check_column-requires g c =
     let t = total_more c.args.columns.now c.loop-i.i none c.loop-i-test.true in
     simp (length-map, length-take, length-drop) (omega arith)
 
@@ -26,25 +26,25 @@ loop-i-preserved g c =
     let col = get_or c.args.columns.now c.loop-i.i none in
     let t = total_more c.args.columns.now c.loop-i.i none c.loop-i-test.true in (
       column_fine k (map word_of c.args.words.now) c.args.columns.now c.loop-i.i none c.loop-i.place c.loop-i-test.true
-          (c.in-ok-check-column.ensures ∙ ap (first (cause k col.test) c.loop-i.place) (part_words c.loop-i.place _ col.size c.args.words.now (omega arith)))
+          (c.in_ok-check_column.ensures ∙ ap (first (cause k col.test) c.loop-i.place) (part_words c.loop-i.place _ col.size c.args.words.now (omega arith)))
           ∙ c.loop-i.invariant.0,
       omega arith,
       c.loop-i.invariant.2,
     )
 
-pub returns-in-err-check-column : goal.returns-in-err-check-column
-returns-in-err-check-column g c =
+pub returns-in_err-check_column : goal.returns-in_err-check_column
+returns-in_err-check_column g c =
     let k = g.S.Strength.kind in
     let col = get_or c.args.columns.now c.loop-i.i none in
-    let p = err_from_is_err_and c.from-residual.result c.from-residual.ensures.1 in
+    let p = err_from_is_err_and c.from_residual.result c.from_residual.ensures.1 in
     rw (p.1, p.2)
     (column_bad k (map word_of c.args.words.now) c.args.columns.now c.loop-i.i none c.loop-i.place c.loop-i-test.true _
-    (c.in-err-check-column.ensures ∙ ap (first (cause k col.test) c.loop-i.place) (part_words c.loop-i.place _ col.size c.args.words.now (omega arith)))
+    (c.in_err-check_column.ensures ∙ ap (first (cause k col.test) c.loop-i.place) (part_words c.loop-i.place _ col.size c.args.words.now (omega arith)))
     ∙ c.loop-i.invariant.0)
 
 pub returns : goal.returns
 returns g c =
     sym (at_drop_all (λ cs. in_columns g.S.Strength.kind cs c.loop-i.place (drop c.loop-i.place (map word_of c.args.words.now))) c.args.columns.now c.loop-i.i c.loop-i-test.false) ∙ c.loop-i.invariant.0
 
-pub slice-bounds-check-column-end : goal.slice-bounds-check-column-end
-slice-bounds-check-column-end g c = let t = total_more c.args.columns.now c.loop-i.i none c.loop-i-test.true in search rules
+pub slice_bounds-check_column-end : goal.slice_bounds-check_column-end
+slice_bounds-check_column-end g c = let t = total_more c.args.columns.now c.loop-i.i none c.loop-i-test.true in search rules

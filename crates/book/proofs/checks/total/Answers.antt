@@ -9,8 +9,8 @@ use Rattle.book.proofs.checks.total.Goals as goal
 abbrev none : Column
 none = record { test = Below 0; size = 0 }
 
-pub overflow-add-words : goal.overflow-add-words
-overflow-add-words c = let t = total_more c.args.columns.now c.loop-i.i none c.loop-i-test.true in omega arith
+pub overflow_add-words : goal.overflow_add-words
+overflow_add-words c = let t = total_more c.args.columns.now c.loop-i.i none c.loop-i-test.true in omega arith
 
 pub loop-i-preserved : goal.loop-i-preserved
 loop-i-preserved c = let t = total_more c.args.columns.now c.loop-i.i none c.loop-i-test.true in (omega arith, c.loop-i.invariant.1)

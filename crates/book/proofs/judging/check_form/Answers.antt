@@ -12,15 +12,15 @@ use Rattle.book.proofs.judging.check_form.Goals as goal
 checked : (s : Sizes) (ls : List Limit) (ns : List ℕ) {o : Option (ℕ × ℕ)} → ls ≡ limits → ns ≡ listed_sizes s → o ≡ first size_cause 0 (zip ls ns) → o ≡ in_sizes s
 checked s ls ns p q e = e ∙ ap₂ (λ l n. first size_cause 0 (zip l n)) p q
 
-pub returns-in-err-check-sizes : goal.returns-in-err-check-sizes
-returns-in-err-check-sizes c =
-    let p = err_from_is_err_and c.from-residual.result c.from-residual.ensures.1 in
-    rw (p.1, p.2) record { fault = checked c.args.sizes _ _ c.size-limits.ensures c.listed.ensures c.in-err-check-sizes.ensures; place = tt }
+pub returns-in_err-check_sizes : goal.returns-in_err-check_sizes
+returns-in_err-check_sizes c =
+    let p = err_from_is_err_and c.from_residual.result c.from_residual.ensures.1 in
+    rw (p.1, p.2) record { fault = checked c.args.sizes _ _ c.size_limits.ensures c.listed.ensures c.in_err-check_sizes.ensures; place = tt }
 
-pub last-column-requires : goal.last-column-requires
-last-column-requires c = small c.args.sizes (sym (checked c.args.sizes _ _ c.size-limits.ensures c.listed.ensures c.in-ok-check-sizes.ensures))
+pub last_column-requires : goal.last_column-requires
+last_column-requires c = small c.args.sizes (sym (checked c.args.sizes _ _ c.size_limits.ensures c.listed.ensures c.in_ok-check_sizes.ensures))
 
 pub returns : goal.returns
 returns c =
-    let e = checked c.args.sizes _ _ c.size-limits.ensures c.listed.ensures c.in-ok-check-sizes.ensures in
-    record { fault = e; place = (c.last-column.ensures.value, small c.args.sizes (sym e), c.last-column.ensures.bound) }
+    let e = checked c.args.sizes _ _ c.size_limits.ensures c.listed.ensures c.in_ok-check_sizes.ensures in
+    record { fault = e; place = (c.last_column.ensures.value, small c.args.sizes (sym e), c.last_column.ensures.bound) }

@@ -4,13 +4,13 @@ use Rattle.book.proofs.SmallSizes.{few}
 use Rattle.book.proofs.judging.last_column.Goals as goal
 
 pub total-requires : goal.total-requires
-total-requires c = let v = ap total c.columns-of.ensures in let b = few c.args.sizes c.requires in omega arith
+total-requires c = let v = ap total c.columns_of.ensures in let b = few c.args.sizes c.requires in omega arith
 
-pub overflow-add-result : goal.overflow-add-result
-overflow-add-result c = let v = c.total.ensures ∙ ap total c.columns-of.ensures in let b = few c.args.sizes c.requires in omega arith
+pub overflow_add-result : goal.overflow_add-result
+overflow_add-result c = let v = c.total.ensures ∙ ap total c.columns_of.ensures in let b = few c.args.sizes c.requires in omega arith
 
 pub returns : goal.returns
 returns c =
-    let v = c.total.ensures ∙ ap total c.columns-of.ensures in
+    let v = c.total.ensures ∙ ap total c.columns_of.ensures in
     let b = few c.args.sizes c.requires in
     record { value = ap (λ n. 8 + n) v; bound = omega arith }

@@ -5,4 +5,4 @@ use Rattle.book.proofs.words.second_at.Goals as goal
 pub returns : goal.returns
 returns g c =
     let f = g.R.Row.layout.second_word in
-    c.second-word.ensures ∙ ap f c.index-rows-at.is ∙ sym (get_or-map f c.args.rows.now c.args.at c.index-rows-at.result 0 c.requires)
+    c.second_word.ensures ∙ ap f c.index-rows-at.is ∙ sym (get_or-map f c.args.rows.now c.args.at c.index-rows-at.result 0 c.requires)

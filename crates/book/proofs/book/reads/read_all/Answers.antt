@@ -37,8 +37,8 @@ module _ {S : Type 0} (k : Kind S) (s : Sizes) (ws : List ℕ) (sound : judged k
   from_bars : Clean k ws (drop 7 (columns s)) (bars_at s)
   from_bars = next_table k ws (keys s.posts s.steps s.holds) (strengths s.holds) (drop 7 (columns s)) (holds_at s) (bars_at s) (omega arith) from_holds
 
-pub read-marks-requires : goal.read-marks-requires
-read-marks-requires g c =
+pub read_marks-requires : goal.read_marks-requires
+read_marks-requires g c =
     let k = g.S.Strength.kind in
     let s = c.args.sizes in
     let w = c.args.words.now in
@@ -50,15 +50,15 @@ read-marks-requires g c =
     subst (λ x. x < 16777216) (sym (part_at 8 (8 + s.people - 8) s.people j w (omega arith) l))
     (in_range 16777216 _ (column_at k ws (below 16777216 s.people) (drop 1 (columns s)) 8 (from_marks k s ws c.requires.sound) long j l)))
 
-pub read-table-requires-3 : goal.read-table-requires-3
-read-table-requires-3 g c =
+pub read_table-requires-3 : goal.read_table-requires-3
+read_table-requires-3 g c =
     let s = c.args.sizes in
     let ws = map word_of c.args.words.now in
     let n = length-map c.args.words.now word_of in
     record { room = omega arith; lawful = entries_lawful g.S.Strength.kind ws s.posts s.steps s.holds (drop 7 (columns s)) (holds_at s) c.requires.small.posts (omega arith) (from_holds g.S.Strength.kind s ws c.requires.sound) }
 
-pub read-table-requires-4 : goal.read-table-requires-4
-read-table-requires-4 g c =
+pub read_table-requires-4 : goal.read_table-requires-4
+read_table-requires-4 g c =
     let s = c.args.sizes in
     let ws = map word_of c.args.words.now in
     let n = length-map c.args.words.now word_of in
@@ -71,22 +71,22 @@ returns g c =
     let r : Rules g.row.S.Denot = record {
       posts = s.posts;
       steps = s.steps;
-      marks = c.in-ok-marks.marks.items;
-      plays = c.in-ok-plays.plays.items;
-      covers = c.in-ok-covers.covers.items;
-      holds = c.in-ok-holds.holds.items;
-      bars = c.in-ok-bars.bars.items;
-      clashes = c.in-ok-clashes.clashes.items;
+      marks = c.in_ok-marks.marks.items;
+      plays = c.in_ok-plays.plays.items;
+      covers = c.in_ok-covers.covers.items;
+      holds = c.in_ok-holds.holds.items;
+      bars = c.in_ok-bars.bars.items;
+      clashes = c.in_ok-clashes.clashes.items;
     } in
     let t : RowsAt g.S.Strength.kind s (map word_of w) r = record {
       posts = refl;
       steps = refl;
-      marks = c.in-ok-marks.ensures ∙ part_words 8 (8 + s.people - 8) s.people w (omega arith);
-      plays = c.in-ok-plays.ensures;
-      covers = c.in-ok-covers.ensures;
-      holds = c.in-ok-holds.ensures;
-      bars = c.in-ok-bars.ensures;
-      clashes = c.in-ok-clashes.ensures;
+      marks = c.in_ok-marks.ensures ∙ part_words 8 (8 + s.people - 8) s.people w (omega arith);
+      plays = c.in_ok-plays.ensures;
+      covers = c.in_ok-covers.ensures;
+      holds = c.in_ok-holds.ensures;
+      bars = c.in_ok-bars.ensures;
+      clashes = c.in_ok-clashes.ensures;
     } in
     let long = length-map w word_of ∙ c.requires.long in (
       rows_fit g.S.Strength.kind s (map word_of w) r t long c.requires.sizes g.met.S.Strength.reads_back c.requires.sound,

@@ -6,7 +6,7 @@ pub loop-i-preserved : goal.loop-i-preserved
 loop-i-preserved g c =
     let ws = g.W.Words.listed c.args.words in
     let h : c.loop-i.i < length ws = omega (arith, c.count-i-end.ensures) in
-    ap (map (λ m. m.0)) c.in-ok-push.ensures.items ∙ push_more (λ m. m.0) (vec_items c.loop-i.marks) record { 0 = c.word.result } ws c.loop-i.i h c.word.ensures c.loop-i.invariant
+    ap (map (λ m. m.0)) c.in_ok-push.ensures.items ∙ push_more (λ m. m.0) (vec_items c.loop-i.marks) record { 0 = c.word.result } ws c.loop-i.i h c.word.ensures c.loop-i.invariant
 
 pub returns : goal.returns
 returns g c =

@@ -3,8 +3,8 @@ use Rattle.std.proofs.lemmas.Result.{IfOk-weaker}
 use Rattle.book.proofs.Columns.{part_at, part_length, part_words}
 use Rattle.book.proofs.book.reads.read_table.Goals as goal
 
-pub read-rows-requires : goal.read-rows-requires
-read-rows-requires g c =
+pub read_rows-requires : goal.read_rows-requires
+read_rows-requires g c =
     let w = c.args.words.now in
     let p = c.args.place in
     let n = c.args.size in
@@ -23,6 +23,6 @@ returns g c =
     let w = c.args.words.now in
     let p = c.args.place in
     let n = c.args.size in
-    IfOk-weaker c.read-rows.result _ _
+    IfOk-weaker c.read_rows.result _ _
     (λ v q. (q.0 ∙ part_words p (p + n - p) n w (omega arith), q.1 ∙ part_words (p + n) (p + n + n - (p + n)) n w (omega arith)))
-    c.read-rows.ensures
+    c.read_rows.ensures

@@ -4,14 +4,14 @@ use Rattle.std.proofs.lemmas.List.{length-map}
 use Rattle.book.proofs.RowChecks.{and_then}
 use Rattle.book.proofs.book.rows.check_clash_table.Goals as goal
 
-pub check-column-ones-requires : goal.check-column-ones-requires
-check-column-ones-requires g c = let n = length-map c.args.rows.now (λ p. p.one.0) in omega arith
+pub check_column-ones-requires : goal.check_column-ones-requires
+check_column-ones-requires g c = let n = length-map c.args.rows.now (λ p. p.one.0) in omega arith
 
-pub check-clashes-others-requires : goal.check-clashes-others-requires
-check-clashes-others-requires g c =
+pub check_clashes-others-requires : goal.check_clashes-others-requires
+check_clashes-others-requires g c =
     let m = length-map c.args.rows.now (λ p. p.one.0) in
     let n = length-map c.args.rows.now (λ p. p.other.0) in
     record { same = m ∙ sym n; fits = omega arith }
 
 pub returns : goal.returns
-returns g c = ap result_err c.and.ensures ∙ and_then c.check-column-ones.result c.check-clashes-others.result c.check-column-ones.ensures c.check-clashes-others.ensures
+returns g c = ap result_err c.and.ensures ∙ and_then c.check_column-ones.result c.check_clashes-others.result c.check_column-ones.ensures c.check_clashes-others.ensures

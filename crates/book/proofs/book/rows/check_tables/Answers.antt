@@ -17,8 +17,8 @@ use Rattle.book.proofs.book.rows.check_tables.Goals as goal
 abbrev none : Column
 none = record { test = Below 0; size = 0 }
 
-pub check-column-marks-requires : goal.check-column-marks-requires
-check-column-marks-requires g c =
+pub check_column-marks-requires : goal.check_column-marks-requires
+check_column-marks-requires g c =
     let n = length-map c.deref.result.now (λ (m : Marks). m.0) in
     omega (arith, c.deref.type-inv)
 
@@ -28,7 +28,7 @@ returns g c =
     let r = said c.args.rows.now in
     let s = c.args.sizes in
     let v = c.requires.sizes in
-    let t = c.columns-of-tests.ensures ∙ ap columns v in
+    let t = c.columns_of-tests.ensures ∙ ap columns v in
     let n1 : s.people ≡ length r.marks = ap (λ (s : Sizes). s.people) v in
     let n2 : s.plays ≡ length r.plays = ap (λ (s : Sizes). s.plays) v in
     let n3 : s.covers ≡ length r.covers = ap (λ (s : Sizes). s.covers) v in
@@ -40,16 +40,16 @@ returns g c =
     let p4 : 8 + s.people + 2 * s.plays + 2 * s.covers + 2 * s.holds ≡ bars_place k r = omega arith in
     let p5 : 8 + s.people + 2 * s.plays + 2 * s.covers + 2 * s.holds + 2 * s.bars ≡ clashes_place k r = omega arith in
     let l = c.requires.last ∙ ap last_at v in
-    let chained = c.and-5.ensures ∙ ap (λ x. result_and x c.check-clash-table-clashes.result) (c.and-4.ensures ∙ ap (λ x. result_and x c.check-table-bars.result) (c.and-3.ensures
-    ∙ ap (λ x. result_and x c.check-table-holds.result) (c.and-2.ensures ∙ ap (λ x. result_and x c.check-table-covers.result) c.and.ensures))) in
+    let chained = c.and-5.ensures ∙ ap (λ x. result_and x c.check_clash_table-clashes.result) (c.and-4.ensures ∙ ap (λ x. result_and x c.check_table-bars.result) (c.and-3.ensures
+    ∙ ap (λ x. result_and x c.check_table-holds.result) (c.and-2.ensures ∙ ap (λ x. result_and x c.check_table-covers.result) c.and.ensures))) in
     ap result_err chained
-    ∙ rows_checked k r c.check-column-marks.result c.check-table-plays.result c.check-table-covers.result c.check-table-holds.result c.check-table-bars.result c.check-clash-table-clashes.result
-    (c.check-column-marks.ensures ∙ (λ i. first (cause k (get_or (t i) 0 none).test) 8 (map (λ (m : Marks). m.0) (c.deref.ensures.value i))))
-    (c.check-table-plays.ensures ∙ (λ i. in_table k play_layout (c.deref-2.ensures.value i) (p1 i) (get_or (t i) 1 none).test (get_or (t i) 2 none).test))
-    (c.check-table-covers.ensures ∙ (λ i. in_table k cover_layout (c.deref-3.ensures.value i) (p2 i) (get_or (t i) 3 none).test (get_or (t i) 4 none).test))
-    (c.check-table-holds.ensures ∙ (λ i. in_table k (entry_layout k) (c.deref-4.ensures.value i) (p3 i) (get_or (t i) 5 none).test (get_or (t i) 6 none).test))
-    (c.check-table-bars.ensures ∙ (λ i. in_table k (entry_layout k) (c.deref-5.ensures.value i) (p4 i) (get_or (t i) 7 none).test (get_or (t i) 8 none).test))
-    (c.check-clash-table-clashes.ensures
+    ∙ rows_checked k r c.check_column-marks.result c.check_table-plays.result c.check_table-covers.result c.check_table-holds.result c.check_table-bars.result c.check_clash_table-clashes.result
+    (c.check_column-marks.ensures ∙ (λ i. first (cause k (get_or (t i) 0 none).test) 8 (map (λ (m : Marks). m.0) (c.deref.ensures.value i))))
+    (c.check_table-plays.ensures ∙ (λ i. in_table k play_layout (c.deref-2.ensures.value i) (p1 i) (get_or (t i) 1 none).test (get_or (t i) 2 none).test))
+    (c.check_table-covers.ensures ∙ (λ i. in_table k cover_layout (c.deref-3.ensures.value i) (p2 i) (get_or (t i) 3 none).test (get_or (t i) 4 none).test))
+    (c.check_table-holds.ensures ∙ (λ i. in_table k (entry_layout k) (c.deref-4.ensures.value i) (p3 i) (get_or (t i) 5 none).test (get_or (t i) 6 none).test))
+    (c.check_table-bars.ensures ∙ (λ i. in_table k (entry_layout k) (c.deref-5.ensures.value i) (p4 i) (get_or (t i) 7 none).test (get_or (t i) 8 none).test))
+    (c.check_clash_table-clashes.ensures
     ∙ (λ i. or_else (first (cause k (get_or (t i) 9 none).test) (p5 i) (map (λ (p : Clash). p.one.0) (c.deref-6.ensures.value i)))
     (first (clash_cause (v i).steps) (l i) (zip (map (λ (p : Clash). p.one.0) (c.deref-6.ensures.value i)) (map (λ (p : Clash). p.other.0) (c.deref-6.ensures.value i))))))
     ∙ ap (λ (s : Sizes). or_else (in_columns k (columns s) 8 (drop 8 (words_in k r))) (in_clashes s (words_in k r))) (sym v)

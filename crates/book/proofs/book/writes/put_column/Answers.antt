@@ -12,7 +12,7 @@ pub loop-i-preserved : goal.loop-i-preserved
 loop-i-preserved g c =
     let ws = g.W.Words.listed c.args.column in
     let h : c.loop-i.i < length ws = omega (arith, c.count-i-end.ensures) in (
-      c.put-word.ensures ∙ ap (λ o. over o (c.args.place + 8 * c.loop-i.i) (bytes_of c.word.result)) c.loop-i.invariant.0
+      c.put_word.ensures ∙ ap (λ o. over o (c.args.place + 8 * c.loop-i.i) (bytes_of c.word.result)) c.loop-i.invariant.0
           ∙ ap (λ x. over (over c.args.out.now c.args.place (spelled (take c.loop-i.i ws))) (c.args.place + 8 * c.loop-i.i) (bytes_of x)) c.word.ensures
           ∙ over_more c.args.out.now c.args.place c.loop-i.i ws h c.loop-i.invariant.1,
       c.loop-i.invariant.1,

@@ -13,19 +13,19 @@ use Rattle.book.proofs.Sound.{fits_small, written_long}
 use Rattle.book.proofs.Writing.{written_over}
 use Rattle.book.proofs.book.writes.write.Goals as goal
 
-pub due-length-due-requires : goal.due-length-due-requires
-due-length-due-requires g c = let b = c.args.book.now in subst Small (sym c.sizes-sizes.ensures) (fits_small (rules b) b.fit)
+pub due_length-due-requires : goal.due_length-due-requires
+due_length-due-requires g c = let b = c.args.book.now in subst Small (sym c.sizes-sizes.ensures) (fits_small (rules b) b.fit)
 
 pub returns-then-out-due : goal.returns-then-out-due
 returns-then-out-due g c =
-    let d = c.due-length-due.ensures ∙ ap due c.sizes-sizes.ensures ∙ sym (written_long g.S.Strength.kind (rules c.args.book.now)) in
+    let d = c.due_length-due.ensures ∙ ap due c.sizes-sizes.ensures ∙ sym (written_long g.S.Strength.kind (rules c.args.book.now)) in
     record {
       writes = (ap (λ n. (8, n)) d, subst (λ n. length c.args.out.now < n) d c.if-out-due.true, refl);
       rereads = rereads g.S.Strength.kind g.met.S.Strength.reads_back g.met.S.Strength.bounded c.args.book.now;
     }
 
-pub put-column-requires-2 : goal.put-column-requires-2
-put-column-requires-2 g c =
+pub put_column-requires-2 : goal.put_column-requires-2
+put_column-requires-2 g c =
     let n = length-map c.deref.result.now (λ (m : Marks). m.0) in
     let p : length c.deref.result.now ≡ c.sizes-sizes.result.people = ap length c.deref.ensures.value ∙ sym (ap (λ (s : Sizes). s.people) c.sizes-sizes.ensures) in
     omega arith
@@ -36,7 +36,7 @@ returns g c =
     let r = rules c.args.book.now in
     let s = c.sizes-sizes.result in
     let v = c.sizes-sizes.ensures in
-    let d = c.due-length-due.ensures ∙ ap due v in
+    let d = c.due_length-due.ensures ∙ ap due v in
     let people : s.people ≡ length r.marks = ap (λ (t : Sizes). t.people) v in
     record {
       rereads = rereads k g.met.S.Strength.reads_back g.met.S.Strength.bounded c.args.book.now;
@@ -44,18 +44,18 @@ returns g c =
         d ∙ sym (written_long k r),
         c.if-out-due.false,
         written_over k r c.args.out.now (subst (λ n. n ≤ length c.args.out.now) d c.if-out-due.false)
-            (c.put-column.ensures ∙ ap (λ t. over c.args.out.now 0 (spelled t)) (c.listed.ensures ∙ ap listed_sizes v))
-            (c.put-column-2.ensures ∙ ap (λ (ms : List Marks). over c.put-column.new.out 64 (spelled (map (λ m. m.0) ms))) c.deref.ensures.value)
+            (c.put_column.ensures ∙ ap (λ t. over c.args.out.now 0 (spelled t)) (c.listed.ensures ∙ ap listed_sizes v))
+            (c.put_column-2.ensures ∙ ap (λ (ms : List Marks). over c.put_column.new.out 64 (spelled (map (λ m. m.0) ms))) c.deref.ensures.value)
             (omega (arith, people))
-            (c.put-table-place.ensures.after ∙ ap (λ rs. over c.put-column-2.new.out (8 * (8 + s.people)) (spelled (flat play_layout rs))) c.deref-2.ensures.value)
-            (c.put-table-place.ensures.value ∙ ap (λ rs. 8 * (8 + s.people) + 16 * length rs) c.deref-2.ensures.value)
-            (c.put-table-place-2.ensures.after ∙ ap (λ rs. over c.put-table-place.new.out c.put-table-place.result (spelled (flat cover_layout rs))) c.deref-3.ensures.value)
-            (c.put-table-place-2.ensures.value ∙ ap (λ rs. c.put-table-place.result + 16 * length rs) c.deref-3.ensures.value)
-            (c.put-table-place-3.ensures.after ∙ ap (λ rs. over c.put-table-place-2.new.out c.put-table-place-2.result (spelled (flat (entry_layout k) rs))) c.deref-4.ensures.value)
-            (c.put-table-place-3.ensures.value ∙ ap (λ rs. c.put-table-place-2.result + 16 * length rs) c.deref-4.ensures.value)
-            (c.put-table-place-4.ensures.after ∙ ap (λ rs. over c.put-table-place-3.new.out c.put-table-place-3.result (spelled (flat (entry_layout k) rs))) c.deref-5.ensures.value)
-            (c.put-table-place-4.ensures.value ∙ ap (λ rs. c.put-table-place-3.result + 16 * length rs) c.deref-5.ensures.value)
-            (c.put-table-end.ensures.after ∙ ap (λ rs. over c.put-table-place-4.new.out c.put-table-place-4.result (spelled (flat clash_layout rs))) c.deref-6.ensures.value)
+            (c.put_table-place.ensures.after ∙ ap (λ rs. over c.put_column-2.new.out (8 * (8 + s.people)) (spelled (flat play_layout rs))) c.deref-2.ensures.value)
+            (c.put_table-place.ensures.value ∙ ap (λ rs. 8 * (8 + s.people) + 16 * length rs) c.deref-2.ensures.value)
+            (c.put_table-place-2.ensures.after ∙ ap (λ rs. over c.put_table-place.new.out c.put_table-place.result (spelled (flat cover_layout rs))) c.deref-3.ensures.value)
+            (c.put_table-place-2.ensures.value ∙ ap (λ rs. c.put_table-place.result + 16 * length rs) c.deref-3.ensures.value)
+            (c.put_table-place-3.ensures.after ∙ ap (λ rs. over c.put_table-place-2.new.out c.put_table-place-2.result (spelled (flat (entry_layout k) rs))) c.deref-4.ensures.value)
+            (c.put_table-place-3.ensures.value ∙ ap (λ rs. c.put_table-place-2.result + 16 * length rs) c.deref-4.ensures.value)
+            (c.put_table-place-4.ensures.after ∙ ap (λ rs. over c.put_table-place-3.new.out c.put_table-place-3.result (spelled (flat (entry_layout k) rs))) c.deref-5.ensures.value)
+            (c.put_table-place-4.ensures.value ∙ ap (λ rs. c.put_table-place-3.result + 16 * length rs) c.deref-5.ensures.value)
+            (c.put_table-end.ensures.after ∙ ap (λ rs. over c.put_table-place-4.new.out c.put_table-place-4.result (spelled (flat clash_layout rs))) c.deref-6.ensures.value)
             ∙ ap (λ n. written k r ++ drop n c.args.out.now) (sym d),
       );
     }

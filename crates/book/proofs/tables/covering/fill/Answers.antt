@@ -3,12 +3,12 @@ use Rattle.book.proofs.Passes.{sound_selves, tells}
 use Rattle.book.proofs.tables.covering.fill.Goals as goal
 
 pub loop-init : goal.loop-init
-loop-init c = (sound_selves c.args.rows.now c.mark-selves.new.table c.mark-selves.ensures.only, c.mark-selves.ensures.selves)
+loop-init c = (sound_selves c.args.rows.now c.mark_selves.new.table c.mark_selves.ensures.only, c.mark_selves.ensures.selves)
 
 pub loop-preserved : goal.loop-preserved
-loop-preserved c = (c.pass-rows.ensures.sound, λ a lt. c.pass-rows.ensures.grows _ (c.loop.invariant.1 a lt))
+loop-preserved c = (c.pass_rows.ensures.sound, λ a lt. c.pass_rows.ensures.grows _ (c.loop.invariant.1 a lt))
 
 pub returns : goal.returns
 returns c =
-    let p = c.pass-rows in
+    let p = c.pass_rows in
     tells c.args.rows.now p.new.table c.requires.range (λ a lt. p.ensures.grows _ (c.loop.invariant.1 a lt)) (p.ensures.passed c.loop-test.false) p.ensures.sound

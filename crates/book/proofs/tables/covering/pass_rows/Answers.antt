@@ -10,13 +10,13 @@ use Rattle.book.proofs.Members.{at_any, member, of_every}
 use Rattle.book.proofs.Passes.{sound_passed}
 use Rattle.book.proofs.Raised.{no_more}
 use Rattle.book.proofs.tables.covering.pass_rows.Goals as goal
-use Rattle.book.proofs.tables.covering.pass_rows.Goals.{then-pass-row, else-pass-row}
+use Rattle.book.proofs.tables.covering.pass_rows.Goals.{then-pass_row, else-pass_row}
 
 abbrev none : Cover
 none = record { stronger = record { 0 = 0 }; weaker = record { 0 = 0 } }
 
-pub pass-row-requires : goal.pass-row-requires
-pass-row-requires c =
+pub pass_row-requires : goal.pass_row-requires
+pass_row-requires c =
     record {
       size = omega arith;
       range = c.requires.range _ (member c.args.rows.now c.loop-row.row-index none c.loop-row-test.true);
@@ -33,16 +33,16 @@ loop-row-preserved c =
     let lt = c.loop-row-test.true in
     let rows = c.args.rows.now in
     let old = c.args.table.now in
-    let p = c.pass-row in
+    let p = c.pass_row in
     let t = p.new.table in
     let less : unset t ≤ unset l.table = no_more t l.table p.result p.ensures.fewer p.ensures.same in
     let goal : Bool → Type 0 = λ b. (b ≡ true → unset t < unset old) × (b ≡ false → AllWithin (RowPassed t) rows 0 (i + 1)) in
-    let rest : goal c.if-pass-row.changed = elim c.if-pass-row.branch [
-      | then-pass-row w ↦ subst goal (sym w.changed-is) ((λ _. omega (arith, p.ensures.fewer w.if-pass-row.true, l.invariant.2)), (λ e. absurd (both_ways true e refl)))
-      | else-pass-row w ↦ subst goal (sym w.changed-is) (
+    let rest : goal c.if-pass_row.changed = elim c.if-pass_row.branch [
+      | then-pass_row w ↦ subst goal (sym w.changed-is) ((λ _. omega (arith, p.ensures.fewer w.if-pass_row.true, l.invariant.2)), (λ e. absurd (both_ways true e refl)))
+      | else-pass_row w ↦ subst goal (sym w.changed-is) (
         (λ e. omega (arith, less, l.invariant.3 e)),
         (λ e.
-            let before : AllWithin (RowPassed t) rows 0 i = subst (λ (x : List Bool). AllWithin (RowPassed x) rows 0 i) (sym (p.ensures.same w.if-pass-row.false)) (l.invariant.4 e) in
+            let before : AllWithin (RowPassed t) rows 0 i = subst (λ (x : List Bool). AllWithin (RowPassed x) rows 0 i) (sym (p.ensures.same w.if-pass_row.false)) (l.invariant.4 e) in
             AllWithin-more (RowPassed t) rows 0 i before (at_any (RowPassed t) rows i none lt p.ensures.passed)),
       )
     ] in (

@@ -17,11 +17,11 @@ in_range rows i range lt = range (get_or rows i none) (member rows i none lt)
 pub loop-row-init : goal.loop-row-init
 loop-row-init c u p ltu ltp = ((λ s. absurd (c.requires.clear _ s)), (λ w. absurd (Memᴰ.not-nil w.1)))
 
-pub overflow-mul-table : goal.overflow-mul-table
-overflow-mul-table c = let r = in_range c.args.rows.now c.loop-row.row-index c.requires.range c.loop-row-test.true in omega arith
+pub overflow_mul-table : goal.overflow_mul-table
+overflow_mul-table c = let r = in_range c.args.rows.now c.loop-row.row-index c.requires.range c.loop-row-test.true in omega arith
 
-pub overflow-add-table : goal.overflow-add-table
-overflow-add-table c = let r = in_range c.args.rows.now c.loop-row.row-index c.requires.range c.loop-row-test.true in omega arith
+pub overflow_add-table : goal.overflow_add-table
+overflow_add-table c = let r = in_range c.args.rows.now c.loop-row.row-index c.requires.range c.loop-row-test.true in omega arith
 
 pub bounds-table-person : goal.bounds-table-person
 bounds-table-person c = let r = in_range c.args.rows.now c.loop-row.row-index c.requires.range c.loop-row-test.true in omega arith

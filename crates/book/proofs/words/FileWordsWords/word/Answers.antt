@@ -3,8 +3,8 @@ use Rattle.std.proofs.lemmas.List.{length-map, get_or-map}
 use Rattle.book.specs.Words.{word_of}
 use Rattle.book.proofs.words.FileWordsWords.word.Goals as goal
 
-pub offset-bounds-self-at : goal.offset-bounds-self-at
-offset-bounds-self-at c = let h : c.args.at < length c.args.self.0.now = simp length-map at c.requires in search rules
+pub offset_bounds-self-at : goal.offset_bounds-self-at
+offset_bounds-self-at c = let h : c.args.at < length c.args.self.0.now = simp length-map at c.requires in search rules
 
 pub bounds-self-at : goal.bounds-self-at
 bounds-self-at c = simp length-map at c.requires
@@ -13,4 +13,4 @@ pub returns : goal.returns
 unfolding word_of
 returns c =
     let h : c.args.at < length c.args.self.0.now = simp length-map at c.requires in
-    c.from-le-bytes.ensures ∙ sym (get_or-map word_of c.args.self.0.now c.args.at [] 0 h)
+    c.from_le_bytes.ensures ∙ sym (get_or-map word_of c.args.self.0.now c.args.at [] 0 h)

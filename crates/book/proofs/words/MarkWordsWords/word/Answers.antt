@@ -2,8 +2,8 @@ use Rattle.std.proofs.Common.{◌<◌, length, sym, rules}
 use Rattle.std.proofs.lemmas.List.{length-map, get_or-map}
 use Rattle.book.proofs.words.MarkWordsWords.word.Goals as goal
 
-pub offset-bounds-self-at : goal.offset-bounds-self-at
-offset-bounds-self-at c = let h : c.args.at < length c.args.self.0.now = simp length-map at c.requires in search rules
+pub offset_bounds-self-at : goal.offset_bounds-self-at
+offset_bounds-self-at c = let h : c.args.at < length c.args.self.0.now = simp length-map at c.requires in search rules
 
 pub bounds-self-at : goal.bounds-self-at
 bounds-self-at c = simp length-map at c.requires
