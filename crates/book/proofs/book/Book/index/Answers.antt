@@ -14,10 +14,8 @@ pub playing_table-requires : goal.playing_table-requires
 playing_table-requires g c = subst PlaysInRange (sym c.deref-2.ensures.value) (fit_plays (said c.args.rows) c.requires)
 
 pub invariant_of-result : goal.invariant_of-result
-invariant_of-result g c = (
-  c.requires,
-  (
-    subst (λ (rows : List Cover). CoveringExact rows (vec_items c.in_ok-covering.covering)) c.deref.ensures.value c.in_ok-covering.ensures,
-    (subst (λ (rows : List Play). PlayingExact rows (vec_items c.in_ok-playing.playing)) c.deref-2.ensures.value c.in_ok-playing.ensures, tt),
-  ),
-)
+invariant_of-result g c = record {
+  fit = c.requires;
+  covered = subst (λ (rows : List Cover). CoveringExact rows (vec_items c.in_ok-covering.covering)) c.deref.ensures.value c.in_ok-covering.ensures;
+  played = subst (λ (rows : List Play). PlayingExact rows (vec_items c.in_ok-playing.playing)) c.deref-2.ensures.value c.in_ok-playing.ensures;
+}

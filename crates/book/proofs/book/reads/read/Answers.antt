@@ -14,7 +14,7 @@ returns g c =
         sym c.in_ok-sizes.ensures.fault,
         ap (λ (r : Rows g.row.S.Denot). spelled (words_in g.S.Strength.kind (said r))) c.in_ok-book.ensures
             ∙ ap spelled (c.in_ok-rows.ensures.1 ∙ ap (map word_of) c.as_chunks.ensures.front)
-            ∙ spelled_chunks (length c.args.bytes.now / 8) c.args.bytes.now (omega arith) (λ i. omega (arith, c.type-inv.bytes i)),
+            ∙ spelled_chunks (length c.args.bytes.now / 8) c.args.bytes.now (omega arith) (λ i. omega (arith, c.type_inv.bytes i)),
       );
       first = first-cause g.S.Strength.kind c.args.bytes.now;
     }

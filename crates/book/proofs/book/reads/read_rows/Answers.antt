@@ -8,7 +8,7 @@ loop-i-preserved g c =
     let vs = g.B.Words.listed c.args.seconds in
     let a : c.loop-i.i < length us = omega (arith, c.count-i-end.ensures) in
     let b : c.loop-i.i < length vs = omega (arith, c.count-i-end.ensures) in
-    let e = c.in-ok-push.ensures.items in
+    let e = c.in_ok-push-in-Some.ensures.items in
     let f = g.R.Row.layout in
     let t = g.met.R.Row.keeps_words c.word.result c.word-in-loop-i.result c.in-Some.row (sym c.in-Some.ensures) in (
       ap (map f.first_word) e ∙ push_more f.first_word (vec_items c.loop-i.rows) c.in-Some.row us c.loop-i.i a (t.0 ∙ c.word.ensures) c.loop-i.invariant.0,

@@ -20,7 +20,7 @@ none = record { test = Below 0; size = 0 }
 pub check_column-marks-requires : goal.check_column-marks-requires
 check_column-marks-requires g c =
     let n = length-map c.deref.result.now (λ (m : Marks). m.0) in
-    omega (arith, c.deref.type-inv)
+    omega (arith, c.deref.type_inv)
 
 pub returns : goal.returns
 returns g c =
