@@ -1,6 +1,6 @@
 -- The walk starts from the posts, and goes on from each grant in the queue until all are served.
 use Rattle.std.proofs.Common.{◌<◌, length, get_or, refl, arith, rules}
-use Rattle.book.specs.Books.{rules}
+use Rattle.book.specs.Books.{rules as rules_of}
 use Rattle.delegation.proofs.Flags.{none-set, queued_none, queue_within}
 use Rattle.delegation.proofs.Walked.{sound_first, sound_next, started_after, served_more, all_reached}
 use Rattle.delegation.proofs.chains.chained.Goals as goal
@@ -11,7 +11,7 @@ reach-count-requires g c = record { flags = c.requires.flags; room = c.requires.
 pub loop-done-init : goal.loop-done-init
 loop-done-init g c =
     let k = g.S.Strength.kind in
-    let r = rules c.args.book.now in
+    let r = rules_of c.args.book.now in
     let gs = c.args.grants.now in
     let gone = c.args.gone.now in
     let w = c.reach-count in (
@@ -27,8 +27,8 @@ loop-done-init g c =
 pub bounds-grants-queue : goal.bounds-grants-queue
 bounds-grants-queue g c = (c.loop-done.invariant.5.flagged c.loop-done.done c.loop-done-test.true).0
 
-pub overflow-add-done : goal.overflow-add-done
-overflow-add-done g c =
+pub overflow_add-done : goal.overflow_add-done
+overflow_add-done g c =
     let l = c.loop-done in
     let few = queue_within (length c.args.grants.now) l.seen l.queue l.count l.invariant.5 in
     omega arith
@@ -36,7 +36,7 @@ overflow-add-done g c =
 pub loop-done-preserved : goal.loop-done-preserved
 loop-done-preserved g c =
     let k = g.S.Strength.kind in
-    let r = rules c.args.book.now in
+    let r = rules_of c.args.book.now in
     let gs = c.args.grants.now in
     let gone = c.args.gone.now in
     let l = c.loop-done in
@@ -55,4 +55,4 @@ loop-done-preserved g c =
 pub returns : goal.returns
 returns g c =
     let l = c.loop-done in
-    all_reached g.S.Strength.kind (rules c.args.book.now) c.args.grants.now c.args.gone.now l.seen l.queue l.count l.done l.invariant.4 l.invariant.5 l.invariant.6 c.loop-done-test.false l.invariant.3
+    all_reached g.S.Strength.kind (rules_of c.args.book.now) c.args.grants.now c.args.gone.now l.seen l.queue l.count l.done l.invariant.4 l.invariant.5 l.invariant.6 c.loop-done-test.false l.invariant.3

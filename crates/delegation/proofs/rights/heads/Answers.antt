@@ -11,23 +11,23 @@ use Rattle.delegation.proofs.Searches.{none_yet, none_more, found_in, none_in}
 use Rattle.delegation.proofs.rights.heads.Goals as goal
 
 pub loop-row-init : goal.loop-row-init
-loop-row-init g c = none_yet _ c.as-slice-holds.result.now
+loop-row-init g c = none_yet _ c.as_slice-holds.result.now
 
 pub loop-row-preserved : goal.loop-row-preserved
 loop-row-preserved g c =
     let x = c.row-item in
-    none_more _ c.as-slice-holds.result.now c.loop-row.row-index x.result c.loop-row-test.true x.is c.loop-row.invariant
-    (not_from_Decides c.row_heads.result c.row_heads.ensures c.if-row-heads.false)
+    none_more _ c.as_slice-holds.result.now c.loop-row.row-index x.result c.loop-row-test.true x.is c.loop-row.invariant
+    (not_from_Decides c.row_heads.result c.row_heads.ensures c.if-row_heads.false)
 
-pub returns-then-row-heads : goal.returns-then-row-heads
-returns-then-row-heads g c =
+pub returns-then-row_heads : goal.returns-then-row_heads
+returns-then-row_heads g c =
     let k = g.S.Strength.kind in
     let r = rules c.args.book.now in
     let P = HeadRow k r c.args.grant in
     let x = c.row-item in
-    let same = c.as-slice-holds.ensures.value ∙ ap (λ rows. vec_items rows.holds) c.rows.ensures in
+    let same = c.as_slice-holds.ensures.value ∙ ap (λ rows. vec_items rows.holds) c.rows.ensures in
     let Q = λ (rows : List (Entry g.row.S.Denot)). SomeOf P rows in
-    let f = found_in P c.as-slice-holds.result.now c.loop-row.row-index x.result c.loop-row-test.true x.is (c.row_heads.ensures.0 c.if-row-heads.true) in
+    let f = found_in P c.as_slice-holds.result.now c.loop-row.row-index x.result c.loop-row-test.true x.is (c.row_heads.ensures.0 c.if-row_heads.true) in
     (λ _. row_heads k r c.args.grant (subst Q same f), λ _. refl)
 
 pub returns : goal.returns
@@ -35,8 +35,8 @@ returns g c =
     let k = g.S.Strength.kind in
     let r = rules c.args.book.now in
     let P = HeadRow k r c.args.grant in
-    let same = c.as-slice-holds.ensures.value ∙ ap (λ rows. vec_items rows.holds) c.rows.ensures in
+    let same = c.as_slice-holds.ensures.value ∙ ap (λ rows. vec_items rows.holds) c.rows.ensures in
     let Q = λ (rows : List (Entry g.row.S.Denot)). SomeOf P rows in (
       λ e. absurd (false≢true e),
-      λ h. absurd (none_in P c.as-slice-holds.result.now c.loop-row.row-index c.loop-row-test.false c.loop-row.invariant (subst Q (sym same) (heads_row k r c.args.grant h))),
+      λ h. absurd (none_in P c.as_slice-holds.result.now c.loop-row.row-index c.loop-row-test.false c.loop-row.invariant (subst Q (sym same) (heads_row k r c.args.grant h))),
     )

@@ -7,6 +7,6 @@ pub returns : goal.returns
 returns g c =
     let ms = vec_items c.args.book.now.rows.marks in
     let u = c.args.person.0 in
-    let same = c.as-slice-marks.ensures.value ∙ ap (λ r. vec_items r.marks) c.rows.ensures in
+    let same = c.as_slice-marks.ensures.value ∙ ap (λ r. vec_items r.marks) c.rows.ensures in
     let past : length ms ≤ u = subst (λ l. length l ≤ u) same c.if-person-marks.false in
     sym (ap (λ m. m.0) (get_or_past ms u (record { 0 = 0 }) past))

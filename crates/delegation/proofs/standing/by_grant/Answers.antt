@@ -12,12 +12,12 @@ pub loop-grant-preserved : goal.loop-grant-preserved
 loop-grant-preserved g c =
     let x = c.grant-item in
     none_more _ c.args.grants.now c.loop-grant.grant-index x.result c.loop-grant-test.true x.is c.loop-grant.invariant
-    (not_from_Decides c.grant-gives.result c.grant-gives.ensures c.if-grant-gives.false)
+    (not_from_Decides c.grant_gives.result c.grant_gives.ensures c.if-grant_gives.false)
 
-pub returns-then-grant-gives : goal.returns-then-grant-gives
-returns-then-grant-gives g c =
+pub returns-then-grant_gives : goal.returns-then-grant_gives
+returns-then-grant_gives g c =
     let x = c.grant-item in
-    (λ _. found_in _ c.args.grants.now c.loop-grant.grant-index x.result c.loop-grant-test.true x.is (c.grant-gives.ensures.0 c.if-grant-gives.true), λ _. refl)
+    (λ _. found_in _ c.args.grants.now c.loop-grant.grant-index x.result c.loop-grant-test.true x.is (c.grant_gives.ensures.0 c.if-grant_gives.true), λ _. refl)
 
 pub returns : goal.returns
 returns g c =

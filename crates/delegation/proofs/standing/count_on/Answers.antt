@@ -6,7 +6,7 @@ use Rattle.delegation.specs.Found.Filtered.{none}
 use Rattle.delegation.specs.declared.grants.Grant.{Grant}
 use Rattle.delegation.proofs.Searches.{counted_yes, counted_no, counted_all}
 use Rattle.delegation.proofs.standing.count_on.Goals as goal
-use Rattle.delegation.proofs.standing.count_on.Goals.{then-on-lot, else-on-lot}
+use Rattle.delegation.proofs.standing.count_on.Goals.{then-on_lot, else-on_lot}
 
 pub loop-grant-init : goal.loop-grant-init
 loop-grant-init g c = (omega arith, ([], none, refl))
@@ -19,13 +19,13 @@ loop-grant-preserved g c =
     let xs = c.args.grants.now in
     let P = λ (h : Grant g.row.S.Denot). h.lot ≡ c.args.lot in
     let Goal = λ (n : ℕ). (n ≤ i + 1) × Counted P (take (i + 1) xs) n in
-    elim c.if-on-lot.branch [
-      | then-on-lot w ↦
+    elim c.if-on_lot.branch [
+      | then-on_lot w ↦
           subst Goal (sym w.count-is)
-          (omega (arith, l.invariant.0), counted_yes P xs i x.result c.loop-grant-test.true x.is l.count (c.on_lot.ensures.0 w.if-on-lot.true) l.invariant.1)
-      | else-on-lot w ↦
+          (omega (arith, l.invariant.0), counted_yes P xs i x.result c.loop-grant-test.true x.is l.count (c.on_lot.ensures.0 w.if-on_lot.true) l.invariant.1)
+      | else-on_lot w ↦
           subst Goal (sym w.count-is)
-          (omega (arith, l.invariant.0), counted_no P xs i x.result c.loop-grant-test.true x.is l.count (not_from_Decides c.on_lot.result c.on_lot.ensures w.if-on-lot.false) l.invariant.1)
+          (omega (arith, l.invariant.0), counted_no P xs i x.result c.loop-grant-test.true x.is l.count (not_from_Decides c.on_lot.result c.on_lot.ensures w.if-on_lot.false) l.invariant.1)
     ]
 
 pub returns : goal.returns

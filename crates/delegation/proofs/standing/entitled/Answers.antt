@@ -10,7 +10,7 @@ returns g c =
     let k = g.S.Strength.kind in
     let a = c.args in
     let r = rules a.book.now in (
-      λ e. grant_entitles k r a.grants.now a.person a.right a.lot (c.by-grant.ensures.0 e),
-      λ b. ⊎_elim (λ h. absurd (not_from_Decides c.by-post.result c.by-post.ensures c.if-by-post.false h)) c.by-grant.ensures.1
+      λ e. grant_entitles k r a.grants.now a.person a.right a.lot (c.by_grant.ensures.0 e),
+      λ b. ⊎_elim (λ h. absurd (not_from_Decides c.by_post.result c.by_post.ensures c.if-by_post.false h)) c.by_grant.ensures.1
           (entitled_cases k r a.grants.now a.person a.right a.lot b),
     )

@@ -6,6 +6,6 @@ use Rattle.delegation.proofs.standing.same_grant.Goals as goal
 pub returns : goal.returns
 returns g c =
     let k = g.S.Strength.kind in (
-      λ e. same_grants k g.met.S.Strength.reads_back c.args.a c.args.b (c.same-numbers.ensures.0 c.if-not-same-numbers.false) (c.same-word.ensures.0 e),
-      λ e. c.same-word.ensures.1 (ap (λ x. k.word x.right.strength) e),
+      λ e. same_grants k g.met.S.Strength.reads_back c.args.a c.args.b (c.same_numbers.ensures.0 c.if-not-same_numbers.false) (c.same_word.ensures.0 e),
+      λ e. c.same_word.ensures.1 (ap (λ x. k.word x.right.strength) e),
     )

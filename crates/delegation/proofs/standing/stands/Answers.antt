@@ -14,13 +14,13 @@ pub loop-other-preserved : goal.loop-other-preserved
 loop-other-preserved g c =
     let x = c.other-item in
     none_more _ c.args.grants.now c.loop-other.other-index x.result c.loop-other-test.true x.is c.loop-other.invariant
-    (not_from_Decides c.same-grant.result c.same-grant.ensures c.if-same-grant.false)
+    (not_from_Decides c.same_grant.result c.same_grant.ensures c.if-same_grant.false)
 
-pub returns-then-same-grant : goal.returns-then-same-grant
-returns-then-same-grant g c =
+pub returns-then-same_grant : goal.returns-then-same_grant
+returns-then-same_grant g c =
     let x = c.other-item in
     let P = λ (h : Grant g.row.S.Denot). h ≡ c.args.grant in (
-      λ _. Memᴰ.cast (sym (c.same-grant.ensures.0 c.if-same-grant.true)) (mem_in P c.args.grants.now c.loop-other.other-index x.result c.loop-other-test.true x.is),
+      λ _. Memᴰ.cast (sym (c.same_grant.ensures.0 c.if-same_grant.true)) (mem_in P c.args.grants.now c.loop-other.other-index x.result c.loop-other-test.true x.is),
       λ _. refl,
     )
 

@@ -12,12 +12,12 @@ pub loop-earlier-preserved : goal.loop-earlier-preserved
 loop-earlier-preserved g c =
     let x = c.earlier-item in
     none_more _ c.args.grants.now c.loop-earlier.earlier-index x.result c.loop-earlier-test.true x.is c.loop-earlier.invariant
-    (not_from_Decides c.supports-on.result c.supports-on.ensures c.if-supports-on.false)
+    (not_from_Decides c.supports_on.result c.supports_on.ensures c.if-supports_on.false)
 
-pub returns-then-supports-on : goal.returns-then-supports-on
-returns-then-supports-on g c =
+pub returns-then-supports_on : goal.returns-then-supports_on
+returns-then-supports_on g c =
     let x = c.earlier-item in
-    (λ _. found_in _ c.args.grants.now c.loop-earlier.earlier-index x.result c.loop-earlier-test.true x.is (c.supports-on.ensures.0 c.if-supports-on.true), λ _. refl)
+    (λ _. found_in _ c.args.grants.now c.loop-earlier.earlier-index x.result c.loop-earlier-test.true x.is (c.supports_on.ensures.0 c.if-supports_on.true), λ _. refl)
 
 pub returns : goal.returns
 returns g c =

@@ -5,4 +5,4 @@ use Rattle.delegation.proofs.withdrawals.chained_beside.Goals as goal
 
 pub returns : goal.returns
 returns g c =
-    chained_beside c.args.grants.now c.args.named c.flag-apart-gone.result c.flag-apart-gone.ensures g.S.Strength.kind (rules c.args.book.now) c.chained.result c.chained.ensures
+    chained_beside c.args.grants.now c.args.named c.flag_apart-gone.result c.flag_apart-gone.ensures g.S.Strength.kind (rules c.args.book.now) c.chained.result c.chained.ensures

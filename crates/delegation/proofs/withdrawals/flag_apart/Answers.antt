@@ -13,8 +13,8 @@ loop-i-preserved g c =
     let P = Apart c.args.named in
     let long : length l.flags ≡ 512 = l.invariant.0 in
     let inside : l.i < length l.flags = omega (arith, c.requires) in (
-      length-set l.flags l.i c.is-apart.result ∙ l.invariant.0,
-      flags_more P gs l.flags l.i c.is-apart.result inside l.invariant.1 (decides_at P gs l.i x.result c.loop-i-test.true x.is c.is-apart.result c.is-apart.ensures),
+      length-set l.flags l.i c.is_apart.result ∙ l.invariant.0,
+      flags_more P gs l.flags l.i c.is_apart.result inside l.invariant.1 (decides_at P gs l.i x.result c.loop-i-test.true x.is c.is_apart.result c.is_apart.ensures),
     )
 
 pub returns : goal.returns
