@@ -1,6 +1,6 @@
 // From a line to a call.
 ghost use Rattle.std.specs.Prelude.{◌≡◌};
-ghost use Rattle.script.specs.Parsed.{arity, called, commanded, lettered as letter-of, parsed};
+ghost use Rattle.script.specs.Parsed.{arity, called, commanded, lettered as letter_of_lem, parsed};
 
 use crate::cuts::part;
 use crate::fields::{count, numbers};
@@ -33,7 +33,7 @@ fn command_of(letter: char) -> Option<Command>
 
 /// The command of a first field: exactly one known letter.
 fn lettered(first: &[u8]) -> Option<Command>
-    ensures { result ≡ letter-of first.now }
+    ensures { result ≡ letter_of_lem first.now }
 {
     match first {
         [letter] => command_of(char::from(*letter)),

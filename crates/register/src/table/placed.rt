@@ -1,6 +1,6 @@
 // Rows that lie on lots.
 ghost use Rattle.std.specs.Prelude.{◌≡◌, ◌-◌, ◌≤◌, ◌++◌, length, take, drop, Decides, ◌≢◌};
-ghost use Rattle.book.specs.declared.rows.Lot.{Lot as A-lot};
+ghost use Rattle.book.specs.declared.rows.Lot.{Lot as TheLot};
 ghost use Rattle.delegation.specs.Found.{Filtered};
 ghost use Rattle.register.specs.Shape.{rows, Places};
 
@@ -12,7 +12,7 @@ use strength::Strength;
 
 /// A row that lies on a lot.
 pub(crate) trait Placed: Copy {
-    ghost whose: { Self → A-lot };
+    ghost whose: { Self → TheLot };
 
     fn lot(self) -> Lot
         ensures { result ≡ whose self };
@@ -44,7 +44,7 @@ impl Placed for Record {
 
 /// Whether a row lies on the lot.
 fn lies_on<T: Placed>(row: T, lot: Lot) -> bool
-    ensures { Decides result (whose row ≡ lot) }
+    ensures { Decides result (T.whose row ≡ lot) }
 {
     row.lot().0 == lot.0
 }
@@ -54,7 +54,7 @@ fn lies_on<T: Placed>(row: T, lot: Lot) -> bool
 pub(crate) fn sweep_lot<T: Placed>(places: &mut [T], used: usize, lot: Lot) -> usize
     requires { used ≤ length places.old }
     ensures few { result ≤ used }
-    ensures rows { Filtered (λ x. whose x ≢ lot) (take used places.old) (take result places.new) }
+    ensures rows { Filtered (λ x. T.whose x ≢ lot) (take used places.old) (take result places.new) }
     ensures places { places.new ≡ take result places.new ++ drop result places.old }
 {
     let mut left = 0;
@@ -72,7 +72,7 @@ impl<'a, T: Placed> Table<'a, T> {
     /// Drops the rows that lie on the lot.
     pub(crate) fn drop_lot(&mut self, lot: Lot)
         requires { self.old.used ≤ length self.old.places.now }
-        ensures rows { Filtered (λ x. whose x ≢ lot) (rows self.old) (rows self.new) }
+        ensures rows { Filtered (λ x. T.whose x ≢ lot) (rows self.old) (rows self.new) }
         ensures places { Places self.old self.new }
         ensures used { self.new.used ≤ self.old.used }
         ensures long { length self.new.places.now ≡ length self.old.places.now }

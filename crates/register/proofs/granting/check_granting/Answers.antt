@@ -8,16 +8,16 @@ use Rattle.register.specs.Refusals.{Checks}
 use Rattle.register.proofs.Answering.{checks_then, refused_first}
 use Rattle.register.proofs.granting.check_granting.Goals as goal
 
-pub returns-in-err-check-backing : goal.returns-in-err-check-backing
-returns-in-err-check-backing g c =
+pub returns-in_err-check_backing : goal.returns-in_err-check_backing
+returns-in_err-check_backing g c =
     let k = g.S.Strength.kind in
     let r = rules c.args.book.now in
     let gs = c.args.grants.now in
     let q = c.args.grant in
-    let e = c.in-err-check-backing.field-0.0 in
-    let p = err_from_is_err_and c.from-residual.result c.from-residual.ensures.1 in
+    let e = c.in_err-check_backing.field-0.0 in
+    let p = err_from_is_err_and c.from_residual.result c.from_residual.ensures.1 in
     let P = λ (x : Result (Unit {0}) (ℕ × ℕ)). Checks (granting k r gs q) (λ _. Backed k r gs q × (length gs < 512)) x in
-    subst P (sym (p.1 ∙ ap Err p.2)) (refused_first (backing k r gs q) (joining k r gs q) e.0 e.1 c.in-err-check-backing.ensures)
+    subst P (sym (p.1 ∙ ap Err p.2)) (refused_first (backing k r gs q) (joining k r gs q) e.0 e.1 c.in_err-check_backing.ensures)
 
 pub returns : goal.returns
 returns g c =
@@ -25,5 +25,5 @@ returns g c =
     let r = rules c.args.book.now in
     let gs = c.args.grants.now in
     let q = c.args.grant in
-    let is = c.in-ok-check-backing.ensures in
-    checks_then (backing k r gs q) (joining k r gs q) (Backed k r gs q) (λ _. length gs < 512) c.check-joining.result is.0 is.1 c.check-joining.ensures
+    let is = c.in_ok-check_backing.ensures in
+    checks_then (backing k r gs q) (joining k r gs q) (Backed k r gs q) (λ _. length gs < 512) c.check_joining.result is.0 is.1 c.check_joining.ensures

@@ -13,4 +13,4 @@ first_or_none P xs None h = λ p f. no_first P xs p h f
 pub returns : goal.returns
 returns g c =
     let r = rules c.args.book.now in
-    first_or_none (Forbids g.S.Strength.kind r c.args.grant) r.bars c.first-bar.result c.first-bar.ensures
+    first_or_none (Forbids g.S.Strength.kind r c.args.grant) r.bars c.first_bar.result c.first_bar.ensures

@@ -10,36 +10,36 @@ use Rattle.register.specs.declared.calls.Call.TheVariants.{Grant as Grants}
 use Rattle.register.proofs.Answering.{allowed_then, allowed_with, grants_it, refused_first, refused_then, refused_with, refuses, same_places}
 use Rattle.register.proofs.register.Register.grant.Goals as goal
 
-pub returns-in-err-strength : goal.returns-in-err-strength
-returns-in-err-strength g c =
+pub returns-in_err-strength : goal.returns-in_err-strength
+returns-in_err-strength g c =
     let k = g.S.Strength.kind in
     let s = c.args.self.now in
     let a = c.args in
     let r = rules s.book.now in
-    let e = c.in-err-strength.field-0.0 in
+    let e = c.in_err-strength.field-0.0 in
     let later = with_strength (k.of_word a.word) (λ (x : g.row.S.Denot). granting k r (rows s.grants) (grant_of a.giver a.receiver a.step a.lot x)) in
-    let one = subst (λ ls. Refused (passing k r ls a.giver a.receiver a.step a.word a.lot) e.0 e.1) c.cut.ensures c.in-err-strength.ensures in
+    let one = subst (λ ls. Refused (passing k r ls a.giver a.receiver a.step a.word a.lot) e.0 e.1) c.cut.ensures c.in_err-strength.ensures in
     record {
-      called = refuses k (Grants a.giver a.receiver a.step a.word a.lot) c.from-residual.result s e (err_from_is_err_and c.from-residual.result c.from-residual.ensures.1)
+      called = refuses k (Grants a.giver a.receiver a.step a.word a.lot) c.from_residual.result s e (err_from_is_err_and c.from_residual.result c.from_residual.ensures.1)
           (refused_first (passing k r (state_of s).lots a.giver a.receiver a.step a.word a.lot) later e.0 e.1 one);
       lender = refl;
       recorder = refl;
     }
 
-pub returns-in-err-check-granting : goal.returns-in-err-check-granting
-returns-in-err-check-granting g c =
+pub returns-in_err-check_granting : goal.returns-in_err-check_granting
+returns-in_err-check_granting g c =
     let k = g.S.Strength.kind in
     let s = c.args.self.now in
     let a = c.args in
     let r = rules s.book.now in
-    let f = c.from-residual-in-err-check-granting in
-    let e = c.in-err-check-granting.field-0.0 in
-    let strength = c.in-ok-strength.strength in
-    let was = c.in-ok-strength.ensures in
+    let f = c.from_residual-in_err-check_granting in
+    let e = c.in_err-check_granting.field-0.0 in
+    let strength = c.in_ok-strength.strength in
+    let was = c.in_ok-strength.ensures in
     let grant = grant_of a.giver a.receiver a.step a.lot in
     let checks = λ (x : g.row.S.Denot). granting k r (rows s.grants) (grant x) in
     let one = subst (λ ls. Allowed (passing k r ls a.giver a.receiver a.step a.word a.lot)) c.cut.ensures was.0 in
-    let two = subst (λ gs. Refused (granting k r gs (grant strength)) e.0 e.1) c.rows.ensures c.in-err-check-granting.ensures in
+    let two = subst (λ gs. Refused (granting k r gs (grant strength)) e.0 e.1) c.rows.ensures c.in_err-check_granting.ensures in
     record {
       called = refuses k (Grants a.giver a.receiver a.step a.word a.lot) f.result s e (err_from_is_err_and f.result f.ensures.1)
           (refused_then (passing k r (state_of s).lots a.giver a.receiver a.step a.word a.lot) (with_strength (k.of_word a.word) checks) e.0 e.1 one
@@ -54,12 +54,12 @@ returns g c =
     let s = c.args.self.now in
     let a = c.args in
     let r = rules s.book.now in
-    let strength = c.in-ok-strength.strength in
-    let was = c.in-ok-strength.ensures in
+    let strength = c.in_ok-strength.strength in
+    let was = c.in_ok-strength.ensures in
     let grant = grant_of a.giver a.receiver a.step a.lot in
     let checks = λ (x : g.row.S.Denot). granting k r (rows s.grants) (grant x) in
     let one = subst (λ ls. Allowed (passing k r ls a.giver a.receiver a.step a.word a.lot)) c.cut.ensures was.0 in
-    let is = c.in-ok-check-granting.ensures in
+    let is = c.in_ok-check_granting.ensures in
     let two = subst (λ gs. Allowed (granting k r gs (grant strength))) c.rows.ensures is.0 in
     let backed = subst (λ gs. Backed k r gs (grant strength)) c.rows.ensures is.1.0 in
     record {

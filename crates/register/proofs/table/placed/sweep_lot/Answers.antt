@@ -5,7 +5,7 @@ use Rattle.delegation.specs.Found.{Filtered}
 use Rattle.delegation.specs.Found.Filtered.{none}
 use Rattle.register.proofs.Sweeps.{Sweeping, sweeping_goes, sweeping_stays}
 use Rattle.register.proofs.table.placed.sweep_lot.Goals as goal
-use Rattle.register.proofs.table.placed.sweep_lot.Goals.{then-not-lies-on, else-not-lies-on}
+use Rattle.register.proofs.table.placed.sweep_lot.Goals.{then-not-lies_on, else-not-lies_on}
 
 pub loop-i-init : goal.loop-i-init
 loop-i-init g c = (omega arith, none, refl)
@@ -19,11 +19,11 @@ loop-i-preserved g c =
     let lt : l.i < length xs = omega arith in
     let long : length l.places ≡ length xs = l.auto.places in
     let Goal = λ (ys : List g.row.T.Denot) (k : ℕ). Sweeping P xs ys k (l.i + 1) in
-    elim c.if-not-lies-on.branch [
-      | then-not-lies-on w ↦ subst (λ ys. Goal ys c.if-not-lies-on.left) (sym w.places-is) (subst (λ k. Goal (set l.places l.left x.result) k) (sym w.left-is)
-          (sweeping_stays P xs l.places l.left l.i x.result lt long x.is l.invariant (not_from_Decides c.lies-on.result c.lies-on.ensures w.if-not-lies-on.true)))
-      | else-not-lies-on w ↦ subst (λ ys. Goal ys c.if-not-lies-on.left) (sym w.places-is) (subst (λ k. Goal l.places k) (sym w.left-is)
-          (sweeping_goes P xs l.places l.left l.i x.result lt long x.is l.invariant (λ n. n (c.lies-on.ensures.0 w.if-not-lies-on.false))))
+    elim c.if-not-lies_on.branch [
+      | then-not-lies_on w ↦ subst (λ ys. Goal ys c.if-not-lies_on.left) (sym w.places-is) (subst (λ k. Goal (set l.places l.left x.result) k) (sym w.left-is)
+          (sweeping_stays P xs l.places l.left l.i x.result lt long x.is l.invariant (not_from_Decides c.lies_on.result c.lies_on.ensures w.if-not-lies_on.true)))
+      | else-not-lies_on w ↦ subst (λ ys. Goal ys c.if-not-lies_on.left) (sym w.places-is) (subst (λ k. Goal l.places k) (sym w.left-is)
+          (sweeping_goes P xs l.places l.left l.i x.result lt long x.is l.invariant (λ n. n (c.lies_on.ensures.0 w.if-not-lies_on.false))))
     ]
 
 pub returns : goal.returns

@@ -4,4 +4,4 @@ use Rattle.delegation.specs.Found.{Counted}
 use Rattle.register.proofs.table.grants.Table+Grant+S.count_on.Goals as goal
 
 pub returns : goal.returns
-returns g c = subst (λ gs. Counted (λ h. h.lot ≡ c.args.lot) gs c.count-on.result) c.rows.ensures c.count-on.ensures
+returns g c = subst (λ gs. Counted (λ h. h.lot ≡ c.args.lot) gs c.count_on.result) c.rows.ensures c.count_on.ensures
