@@ -3,8 +3,8 @@ use Rattle.std.proofs.lemmas.Fmt.{decimal_digit}
 use Rattle.script.proofs.Out.{decimal_length, paste_digit, paste_last}
 use Rattle.script.proofs.digits.+put_number.Goals as goal
 
-pub put-number-end-requires : goal.put-number-end-requires
-put-number-end-requires t c =
+pub put_number-end-requires : goal.put_number-end-requires
+put_number-end-requires t c =
     let l = decimal_length c.args.n (omega arith) c.ranges.n.fits in
     (search rules, omega arith)
 
@@ -14,14 +14,14 @@ bounds-out-at t c = omega (arith, ap length (decimal_digit c.args.n (omega arith
 pub bounds-out-end : goal.bounds-out-end
 bounds-out-end t c =
     let l = decimal_length c.args.n (omega arith) c.ranges.n.fits in
-    let k = c.put-number-end.auto.out in
-    omega (arith, c.put-number-end.ensures.place)
+    let k = c.put_number-end.auto.out in
+    omega (arith, c.put_number-end.ensures.place)
 
-pub overflow-add-result : goal.overflow-add-result
-overflow-add-result t c = let l = ap length (decimal_digit c.args.n (omega arith)) in search rules
+pub overflow_add-result : goal.overflow_add-result
+overflow_add-result t c = let l = ap length (decimal_digit c.args.n (omega arith)) in search rules
 
-pub overflow-add-result-2 : goal.overflow-add-result-2
-overflow-add-result-2 t c = let l = decimal_length c.args.n (omega arith) c.ranges.n.fits in search rules
+pub overflow_add-result-2 : goal.overflow_add-result-2
+overflow_add-result-2 t c = let l = decimal_length c.args.n (omega arith) c.ranges.n.fits in search rules
 
 pub returns-then-n-lt10 : goal.returns-then-n-lt10
 returns-then-n-lt10 t c = record {
@@ -31,6 +31,6 @@ returns-then-n-lt10 t c = record {
 
 pub returns : goal.returns
 returns t c = record {
-  after = paste_last c.args.out.now c.args.at c.args.n _ _ (omega arith) c.ranges.n.fits c.requires c.put-number-end.ensures.after c.put-number-end.ensures.place;
-  place = omega (arith, decimal_length c.args.n (omega arith) c.ranges.n.fits, c.put-number-end.ensures.place);
+  after = paste_last c.args.out.now c.args.at c.args.n _ _ (omega arith) c.ranges.n.fits c.requires c.put_number-end.ensures.after c.put_number-end.ensures.place;
+  place = omega (arith, decimal_length c.args.n (omega arith) c.ranges.n.fits, c.put_number-end.ensures.place);
 }

@@ -14,8 +14,8 @@ left ns i lt = at_drop_more (λ xs. length (flat_map spaced xs)) ns i 0 lt ∙ l
 pub loop-n-init : goal.loop-n-init
 loop-n-init c = (record { after = paste_none c.args.out.now c.args.at []; place = sym (add-zero c.args.at) }, c.requires)
 
-pub put-spaced-end-requires : goal.put-spaced-end-requires
-put-spaced-end-requires c =
+pub put_spaced-end-requires : goal.put_spaced-end-requires
+put_spaced-end-requires c =
     let k = c.loop-n.auto.out in
     let l = left c.args.numbers.now c.loop-n.n-index c.loop-n-test.true in
     omega (arith, c.loop-n.invariant.1)
@@ -28,9 +28,9 @@ loop-n-preserved c =
     let l = left ns i lt in
     let e : flat_map spaced (take i ns) ++ spaced (get_or ns i 0) ≡ flat_map spaced (take (i + 1) ns) =
     flat_map_more spaced [] (take i ns) (get_or ns i 0) ∙ ap (flat_map spaced) (sym (take_more ns i 0 lt)) in
-    let w = further (omega arith) c.loop-n.invariant.0 c.put-spaced-end.ensures in (
-      subst (λ (s : List ℕ). Wrote c.args.out.now c.args.at s c.put-spaced-end.new.out c.put-spaced-end.result) e w,
-      omega (arith, c.loop-n.invariant.1, c.put-spaced-end.ensures.place),
+    let w = further (omega arith) c.loop-n.invariant.0 c.put_spaced-end.ensures in (
+      subst (λ (s : List ℕ). Wrote c.args.out.now c.args.at s c.put_spaced-end.new.out c.put_spaced-end.result) e w,
+      omega (arith, c.loop-n.invariant.1, c.put_spaced-end.ensures.place),
     )
 
 pub returns : goal.returns
