@@ -15,6 +15,7 @@ use failure::Failure;
 use files::file_or_none;
 use input::{Kind, arguments};
 use show::show;
+use std::process::ExitCode;
 use strength::{Band, Pair, Reach};
 
 fn run(rt: &HostRuntime) -> Result<(), Failure> {
@@ -26,11 +27,13 @@ fn run(rt: &HostRuntime) -> Result<(), Failure> {
     }
 }
 
-fn main(rt: HostRuntime) -> Result<(), Failure> {
-    let result = run(&rt);
-    if let Err(failure) = &result {
-        // Where standard error fails too, the status is all that is left to say it.
-        let _ = eprintln!(rt; "{failure}");
+fn main(rt: HostRuntime) -> ExitCode {
+    match run(&rt) {
+        Ok(()) => ExitCode::SUCCESS,
+        Err(failure) => {
+            // Where standard error fails too, the status is all that is left to say it.
+            let _ = eprintln!(rt; "{failure}");
+            ExitCode::FAILURE
+        }
     }
-    result
 }
