@@ -12,7 +12,7 @@ use Rattle.book.specs.Causes.{cause, number_cause, key_cause, first}
 use Rattle.book.specs.Entries.{key_of_word, key_word}
 use Rattle.book.specs.Keys.{key_test}
 use Rattle.book.specs.Layouts.{Layout, TableAt, entry, play_layout, cover_layout, entry_layout, clash_layout}
-use Rattle.book.specs.Form.{columns, due, in_columns, judged, last_at, listed_sizes, sizes_of}
+use Rattle.book.specs.Form.{due, in_columns, judged, last_at, listed_sizes, sizes_of}
 use Rattle.book.specs.Rules.{Rules, fits, sizes_in, words_in}
 use Rattle.book.proofs.FirstCauses.{none_at}
 use Rattle.book.proofs.Judged.{or_parts}

@@ -5,7 +5,6 @@ use mathlib.Core.List.{Memᴰ}
 use Rattle.std.proofs.lemmas.Bool.{cases_eq}
 use Rattle.strength.specs.Kind.{Kind, ReadsBack}
 use Rattle.book.specs.Rules.{Rules}
-use Rattle.delegation.specs.Passes.{SameNumbers}
 use Rattle.delegation.specs.Rights.{Heads, Supports, Chain, Chained}
 use Rattle.delegation.specs.Rights.Chain.{first, next}
 use Rattle.delegation.specs.declared.grants.Grant.{Grant}

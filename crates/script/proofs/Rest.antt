@@ -1,6 +1,5 @@
 -- What is left to cut.
 use Rattle.std.proofs.Common.{ℕ, ◌+◌, ◌<◌, List, length, IfSome, Some, None, Option, arith, Bor}
-use Rattle.script.specs.Grammar.{cut}
 
 -- it has a text, which may be empty, or not
 abbrev pub size : Option (Bor (List ℕ)) → ℕ

@@ -1,5 +1,5 @@
 -- The walk starts from the posts, and goes on from each grant in the queue until all are served.
-use Rattle.std.proofs.Common.{◌<◌, length, get_or, refl, arith, rules}
+use Rattle.std.proofs.Common.{length, get_or, refl, arith, rules}
 use Rattle.book.specs.Books.{rules as rules_of}
 use Rattle.delegation.proofs.Flags.{none-set, queued_none, queue_within}
 use Rattle.delegation.proofs.Walked.{sound_first, sound_next, started_after, served_more, all_reached}

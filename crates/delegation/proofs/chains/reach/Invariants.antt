@@ -1,5 +1,5 @@
 -- Of the grants so far, all that come next are reached and queued.
-use Rattle.std.proofs.Common.{◌≡◌, ◌≤◌, length}
+use Rattle.std.proofs.Common.{length}
 use Rattle.book.specs.Books.{rules}
 use Rattle.delegation.specs.Walks.{Queued, Longer, Reached}
 use Rattle.delegation.proofs.chains.reach.Given as goal

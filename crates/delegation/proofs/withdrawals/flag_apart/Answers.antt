@@ -1,5 +1,5 @@
 -- One flag more.
-use Rattle.std.proofs.Common.{◌≡◌, ◌<◌, length, refl, ◌∙◌, arith}
+use Rattle.std.proofs.Common.{◌≡◌, ◌<◌, length, ◌∙◌, arith}
 use Rattle.std.proofs.lemmas.List.{length-set}
 use Rattle.delegation.specs.Withdrawals.{Apart}
 use Rattle.delegation.proofs.Leaving.{decides_at, flags_more}
