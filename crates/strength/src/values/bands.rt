@@ -2,7 +2,7 @@
 ghost use Rattle.std.specs.Prelude.{◌≡◌};
 ghost use Rattle.strength.specs.Bands.{band_kind};
 ghost use Rattle.strength.specs.BandLaws.{band_antisymmetric, band_monotone, band_reads_back, band_keeps_word};
-ghost use Rattle.std.proofs.Common.{rules, arith};
+ghost use Rattle.std.proofs.Common.{rules};
 
 use super::{Band, HIGHEST_TENTHS, Marks, Tenths};
 use crate::kinds::{Half, Strength};

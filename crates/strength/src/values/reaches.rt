@@ -3,7 +3,7 @@ ghost use Rattle.std.specs.Prelude.{◌≡◌};
 ghost use Rattle.strength.specs.Masks.{within};
 ghost use Rattle.strength.specs.Reaches.{reach_kind, passes, lowered_reach, next_count, next_mask};
 ghost use Rattle.strength.specs.ReachLaws.{reach_reflexive, reach_transitive, reach_antisymmetric, reach_decreasing, reach_monotone, reach_reads_back, reach_keeps_word};
-ghost use Rattle.std.proofs.Common.{rules, arith};
+ghost use Rattle.std.proofs.Common.{rules};
 
 use super::{Count, MASK_LIMIT, Marks, Reach};
 use crate::kinds::{Half, Strength};
