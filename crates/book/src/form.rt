@@ -1,14 +1,14 @@
 // The form of a sheet of words: sizes first, each within limits, and then columns that the sizes measure.
 
 /// The least and the greatest that a size may be.
-#[derive(Clone, Copy)]
+#[derive(Clone, Copy, Debug, PartialEq, Eq)]
 pub struct Limit {
     pub least: u64,
     pub most: u64,
 }
 
 /// What is asked of each word of a column.
-#[derive(Clone, Copy)]
+#[derive(Clone, Copy, Debug, PartialEq, Eq)]
 pub enum Test {
     /// A number below this.
     Below(u64),
@@ -19,14 +19,14 @@ pub enum Test {
 }
 
 /// A column of words.
-#[derive(Clone, Copy)]
+#[derive(Clone, Copy, Debug, PartialEq, Eq)]
 pub struct Column {
     pub test: Test,
     pub size: u64,
 }
 
 /// The sizes of a book.
-#[derive(Clone, Copy)]
+#[derive(Clone, Copy, Debug, PartialEq, Eq)]
 pub struct Sizes {
     pub people: u64,
     pub posts: u64,

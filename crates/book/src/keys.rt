@@ -6,7 +6,7 @@ use crate::rows::{Post, Step};
 pub mod access;
 
 /// A step at a post. A book has it as one word, post × 64 + step.
-#[derive(Clone, Copy)]
+#[derive(Clone, Copy, Debug, PartialEq, Eq)]
 pub struct Key {
     post: Post,
     step: Step,

@@ -14,20 +14,20 @@ const MASK_LIMIT: u32 = 16_777_216;
 const HIGHEST_TENTHS: u16 = 600;
 
 /// A set of 24 bits, each of them a fact about a person, such as a ticket.
-#[derive(Clone, Copy)]
+#[derive(Clone, Copy, Debug, PartialEq, Eq)]
 pub struct Marks(pub u32);
 
 /// How often a right may still be passed on; 255 is without limit.
-#[derive(Clone, Copy)]
+#[derive(Clone, Copy, Debug, PartialEq, Eq)]
 pub struct Count(pub u8);
 
 /// A temperature in tenths of a degree Celsius.
-#[derive(Clone, Copy)]
+#[derive(Clone, Copy, Debug, PartialEq, Eq)]
 pub struct Tenths(pub u16);
 
 /// How often a right may be passed on, and the marks that each receiver needs. At count 0 the
 /// mask is empty, so that equal strengths are equal values.
-#[derive(Clone, Copy)]
+#[derive(Clone, Copy, Debug, PartialEq, Eq)]
 pub struct Reach {
     count: Count,
     mask: Marks,
@@ -35,7 +35,7 @@ pub struct Reach {
 }
 
 /// The temperatures that a right allows, from the lowest to the highest.
-#[derive(Clone, Copy)]
+#[derive(Clone, Copy, Debug, PartialEq, Eq)]
 pub struct Band {
     lowest: Tenths,
     highest: Tenths,
@@ -43,7 +43,7 @@ pub struct Band {
 }
 
 /// Two strengths, each of a kind of its own.
-#[derive(Clone, Copy)]
+#[derive(Clone, Copy, Debug, PartialEq, Eq)]
 pub struct Pair<P, Q> {
     first: P,
     second: Q,
