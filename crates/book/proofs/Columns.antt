@@ -1,13 +1,19 @@
 -- Columns, one after another.
-use Rattle.std.proofs.Common.{◌≡◌, ℕ, ◌+◌, ◌-◌, ◌<◌, ◌≤◌, List, map, length, get_or, take, drop, Some, None, sym, ap, ◌∙◌, arith}
+use Rattle.std.proofs.Common.{◌≡◌, ℕ, ◌+◌, ◌-◌, ◌<◌, ◌≤◌, List, [], ◌∷◌, map, length, get_or, take, drop, sum_by, Some, None, sym, refl, ap, ◌∙◌, arith}
 use Rattle.std.specs.List.{zip}
 use Rattle.std.proofs.lemmas.List.{at_drop_more, take-map, drop-map, drop-drop, length-map, length-take, length-drop, get_or-take, get_or-drop}
+use Rattle.std.proofs.lemmas.List.Sums.{sum_by-cons}
 use Rattle.strength.specs.Kind.{Kind}
+use Rattle.book.specs.declared.faults.Cause.{Cause}
 use Rattle.book.specs.declared.form.Column.{Column}
 use Rattle.book.specs.declared.form.Sizes.{Sizes}
 use Rattle.book.specs.Words.{word_of}
 use Rattle.book.specs.Causes.{cause, clash_cause, first, or_else}
 use Rattle.book.specs.Form.{in_clashes, in_columns, last_at, total}
+
+pub total_sum : (cs : List Column) → sum_by (λ (c : Column). c.size) cs ≡ total cs
+total_sum [] = refl
+total_sum (c ∷ cs) = sum_by-cons (λ (c : Column). c.size) c cs ∙ ap (λ n. c.size + n) (total_sum cs)
 
 pub total_more : (cs : List Column) (i : ℕ) (d : Column) → i < length cs → total (drop i cs) ≡ (get_or cs i d).size + total (drop (i + 1) cs)
 total_more cs i d h = at_drop_more total cs i d h
@@ -43,5 +49,5 @@ module _ {S : Type 0} (k : Kind S) (ws : List ℕ) (cs : List Column) (i : ℕ) 
       → in_columns k (drop (i + 1) cs) (p + (get_or cs i d).size) (drop (p + (get_or cs i d).size) ws) ≡ in_columns k (drop i cs) p (drop p ws)
   column_fine e = sym (in_more ∙ ap (λ o. or_else o (in_columns k (drop (i + 1) cs) (p + (get_or cs i d).size) (drop (p + (get_or cs i d).size) ws))) (sym e))
 
-  pub column_bad : (f : ℕ × ℕ) → Some f ≡ first (cause k (get_or cs i d).test) p (take (get_or cs i d).size (drop p ws)) → Some f ≡ in_columns k (drop i cs) p (drop p ws)
+  pub column_bad : (f : Cause × ℕ) → Some f ≡ first (cause k (get_or cs i d).test) p (take (get_or cs i d).size (drop p ws)) → Some f ≡ in_columns k (drop i cs) p (drop p ws)
   column_bad f e = sym (in_more ∙ ap (λ o. or_else o (in_columns k (drop (i + 1) cs) (p + (get_or cs i d).size) (drop (p + (get_or cs i d).size) ws))) (sym e))

@@ -2,9 +2,11 @@
 use Rattle.std.proofs.Common.{◌≡◌, ℕ, ◌+◌, ◌*◌, ◌/◌, ◌%◌, ◌<◌, ◌≤◌, Bool, true, false, cond, ltb, List, [], ◌∷◌, ◌++◌, map, length, get_or, take, drop, is_some, Some, None, Option, sym, refl, ap, ◌∙◌, subst, ap₂, append_assoc, append-nil, arith}
 use Rattle.std.proofs.lemmas.List.{take-append-drop, drop-drop, get_or-take, get_or-drop, length-map, length-take, length-drop, length-take-le, nil_from_length}
 use Rattle.std.proofs.lemmas.Bool.{ltb-true, lt-ltb, and_from}
+use Rattle.std.proofs.lemmas.Option.{none-some}
 use Rattle.strength.specs.Kind.{Kind, ReadsBack}
 use Rattle.strength.specs.Lawful.{when}
 use Rattle.book.specs.declared.keys.Key.{Key as TheKey}
+use Rattle.book.specs.declared.faults.Cause.TheVariants.{OutOfRange, UnlawfulWord}
 use Rattle.book.specs.declared.form.Column.{Column}
 use Rattle.book.specs.declared.form.Sizes.{Sizes}
 use Rattle.book.specs.declared.form.Test.TheVariants.{Key, Strength}
@@ -13,35 +15,36 @@ use Rattle.book.specs.Entries.{key_of_word, key_word}
 use Rattle.book.specs.Keys.{key_test}
 use Rattle.book.specs.Layouts.{Layout, TableAt, entry, play_layout, cover_layout, entry_layout, clash_layout}
 use Rattle.book.specs.Form.{due, in_columns, judged, last_at, listed_sizes, sizes_of}
+use Rattle.book.specs.Places.{plays_at, covers_at, holds_at, bars_at, clashes_at}
 use Rattle.book.specs.Rules.{Rules, fits, sizes_in, words_in}
 use Rattle.book.proofs.FirstCauses.{none_at}
 use Rattle.book.proofs.Judged.{or_parts}
 use Rattle.book.proofs.Sound.{sound_fits}
 
 -- a word that passes
-pub in_range : (l w : ℕ) → number_cause l w ≡ 0 → w < l
+pub in_range : (l w : ℕ) → number_cause l w ≡ None → w < l
 in_range l w e = at (ltb w l) refl e
   where
-    at : (b : Bool) → ltb w l ≡ b → ◌≡◌ {A = ℕ} (cond b 0 4) 0 → w < l
+    at : (b : Bool) → ltb w l ≡ b → cond b None (Some OutOfRange) ≡ None → w < l
     at true p z = ltb-true w l p
-    at false p z = absurd (omega arith)
+    at false p z = absurd (none-some _ (sym z))
 
-strength_lawful : {S : Type 0} (o : Option S) → ◌≡◌ {A = ℕ} (cond (is_some o) 0 5) 0 → is_some o ≡ true
+strength_lawful : {S : Type 0} (o : Option S) → cond (is_some o) None (Some UnlawfulWord) ≡ None → is_some o ≡ true
 strength_lawful (Some x) e = refl
-strength_lawful None e = absurd (omega arith)
+strength_lawful None e = absurd (none-some _ (sym e))
 
 is_some_when : {X : Type 0} (b : Bool) (f : b ≡ true → X) → is_some (when b f) ≡ b
 is_some_when true f = refl
 is_some_when false f = refl
 
-post_in_range : (p s w : ℕ) → key_cause p s w ≡ 0 → w / 64 < p
+post_in_range : (p s w : ℕ) → key_cause p s w ≡ None → w / 64 < p
 post_in_range p s w e = at (ltb (w / 64) p) refl e
   where
-    at : (b : Bool) → ltb (w / 64) p ≡ b → ◌≡◌ {A = ℕ} (cond b (cond (ltb (w % 64) s) 0 4) 4) 0 → w / 64 < p
+    at : (b : Bool) → ltb (w / 64) p ≡ b → cond b (cond (ltb (w % 64) s) None (Some OutOfRange)) (Some OutOfRange) ≡ None → w / 64 < p
     at true q z = ltb-true (w / 64) p q
-    at false q z = absurd (omega arith)
+    at false q z = absurd (none-some _ (sym z))
 
-key_lawful : (p s w : ℕ) → p ≤ 64 → key_cause p s w ≡ 0 → is_some (key_of_word w) ≡ true
+key_lawful : (p s w : ℕ) → p ≤ 64 → key_cause p s w ≡ None → is_some (key_of_word w) ≡ true
 key_lawful p s w h e =
     let q = post_in_range p s w e in
     is_some_when {X = TheKey} (key_test (w / 64) (w % 64)) _ ∙ and_from (ltb (w / 64) 64) (ltb (w % 64) 64) (lt-ltb (w / 64) 64 (omega arith)) (lt-ltb (w % 64) 64 (omega arith))
@@ -56,7 +59,7 @@ module _ {S : Type 0} (k : Kind S) (ws : List ℕ) where
   abbrev pub Clean : List Column → ℕ → Type 0
   Clean cs p = in_columns k cs p (drop p ws) ≡ None
 
-  pub column_at : (c : Column) (cs : List Column) (p : ℕ) → Clean (c ∷ cs) p → p + c.size ≤ length ws → (j : ℕ) → j < c.size → cause k c.test (get_or ws (p + j) 0) ≡ 0
+  pub column_at : (c : Column) (cs : List Column) (p : ℕ) → Clean (c ∷ cs) p → p + c.size ≤ length ws → (j : ℕ) → j < c.size → cause k c.test (get_or ws (p + j) 0) ≡ None
   column_at c cs p e h j l =
       let part = take c.size (drop p ws) in
       let q = or_parts (first (cause k c.test) p part) _ e in
@@ -86,22 +89,6 @@ module _ (ws : List ℕ) where
 
   cut_table : {R : Type 0} (f : Layout R) (rs : List R) (p n q : ℕ) → TableAt f ws p n rs → q ≡ p + 2 * n → drop p ws ≡ map f.first_word rs ++ (map f.second_word rs ++ drop q ws)
   cut_table f rs p n q t e = cut p n (p + n) _ t.0 refl ∙ ap (λ u. map f.first_word rs ++ u) (cut (p + n) n q _ t.1 (omega arith))
-
--- the places of the tables
-abbrev pub plays_at : Sizes → ℕ
-plays_at s = 8 + s.people
-
-abbrev pub covers_at : Sizes → ℕ
-covers_at s = plays_at s + 2 * s.plays
-
-abbrev pub holds_at : Sizes → ℕ
-holds_at s = covers_at s + 2 * s.covers
-
-abbrev pub bars_at : Sizes → ℕ
-bars_at s = holds_at s + 2 * s.holds
-
-abbrev pub clashes_at : Sizes → ℕ
-clashes_at s = bars_at s + 2 * s.bars
 
 -- the rows that lie at these places
 pub record RowsAt {S : Type 0} (k : Kind S) (s : Sizes) (ws : List ℕ) (r : Rules S) : Type 0 where

@@ -1,61 +1,66 @@
 -- The first place with a cause, step by step.
-use Rattle.std.proofs.Common.{◌≡◌, ℕ, zero, suc, ◌+◌, ◌<◌, ◌≤◌, List, [], ◌∷◌, length, get_or, drop, Some, None, Option, sym, refl, ap, ◌∙◌, add_assoc, arith}
+use Rattle.std.proofs.Common.{◌≡◌, ℕ, zero, suc, ◌+◌, ◌<◌, ◌≤◌, List, [], ◌∷◌, map, length, get_or, drop, Some, None, Option, sym, refl, ap, ◌∙◌, add_assoc, zero-add, arith}
 use Rattle.std.proofs.lemmas.List.{at_drop_more, at_drop_all}
-use Rattle.std.proofs.lemmas.Slice.Zip.{get_or-zip, length-zip}
-use Rattle.std.specs.List.{zip}
+use Rattle.std.proofs.lemmas.Option.{none-some}
+use Rattle.std.proofs.lemmas.List.FromFn.{get_or-enumerate_from, length-enumerate_from}
+use Rattle.std.specs.List.{enumerate_from, zip}
+use Rattle.book.specs.declared.faults.Cause.{Cause}
 use Rattle.book.specs.Causes.{told, first}
 
-told_none : (n i : ℕ) (o : Option (ℕ × ℕ)) → n ≡ 0 → told n i o ≡ o
-told_none zero i o e = refl
-told_none (suc n) i o e = absurd (omega arith)
+told_was : (c : Option Cause) (i : ℕ) (o : Option (Cause × ℕ)) → told c i o ≡ None → (c ≡ None) × (o ≡ None)
+told_was None i o e = (refl, e)
+told_was (Some c) i o e = absurd (none-some _ (sym e))
 
-told_some : (n i : ℕ) (o : Option (ℕ × ℕ)) → (n ≡ 0 → ⊥) → told n i o ≡ Some (n, i)
-told_some zero i o e = absurd (e refl)
-told_some (suc n) i o e = refl
-
-pub told_was : (n i : ℕ) (o : Option (ℕ × ℕ)) → told n i o ≡ None → (n ≡ 0) × (o ≡ None)
-told_was zero i o e = (refl, e)
-told_was (suc n) i o e = let z : ◌≡◌ {A = ℕ} 0 1 = cc in absurd (omega arith)
-
-module _ {X : Type 0} (c : X → ℕ) where
+module _ {X : Type 0} (c : X → Option Cause) where
   first_step : (i : ℕ) (xs : List X) (j : ℕ) (d : X) → j < length xs → first c (i + j) (drop j xs) ≡ told (c (get_or xs j d)) (i + j) (first c (i + (j + 1)) (drop (j + 1) xs))
   first_step i xs j d h =
       let e : first c (i + j) (drop j xs) ≡ told (c (get_or xs j d)) (i + j) (first c (i + j + 1) (drop (j + 1) xs)) = at_drop_more (first c (i + j)) xs j d h in
       e ∙ ap (λ p. told (c (get_or xs j d)) (i + j) (first c p (drop (j + 1) xs))) (add_assoc i j 1)
 
-  pub first_more : (i : ℕ) (xs : List X) (j : ℕ) (d : X) → j < length xs → c (get_or xs j d) ≡ 0 → first c (i + (j + 1)) (drop (j + 1) xs) ≡ first c (i + j) (drop j xs)
-  first_more i xs j d h e = sym (first_step i xs j d h ∙ told_none _ _ _ e)
+  pub first_more : (i : ℕ) (xs : List X) (j : ℕ) (d : X) → j < length xs → c (get_or xs j d) ≡ None → first c (i + (j + 1)) (drop (j + 1) xs) ≡ first c (i + j) (drop j xs)
+  first_more i xs j d h e = sym (first_step i xs j d h ∙ ap (λ o. told o (i + j) (first c (i + (j + 1)) (drop (j + 1) xs))) e)
 
-  pub first_here : (i : ℕ) (xs : List X) (j : ℕ) (d : X) → j < length xs → (c (get_or xs j d) ≡ 0 → ⊥) → first c (i + j) (drop j xs) ≡ Some (c (get_or xs j d), i + j)
-  first_here i xs j d h e = first_step i xs j d h ∙ told_some _ _ _ e
+  pub first_here : (i : ℕ) (xs : List X) (j : ℕ) (d : X) {o : Cause} → j < length xs → c (get_or xs j d) ≡ Some o → first c (i + j) (drop j xs) ≡ Some (o, i + j)
+  first_here i xs j d h e = first_step i xs j d h ∙ ap (λ o. told o (i + j) (first c (i + (j + 1)) (drop (j + 1) xs))) e
 
   pub first_all : (i : ℕ) (xs : List X) (j : ℕ) → length xs ≤ j → first c i (drop j xs) ≡ None
   first_all i xs j h = at_drop_all (first c i) xs j h
 
--- where the first is none, there is none
-module _ {X : Type 0} (c : X → ℕ) where
-  pub none_at : (i : ℕ) (xs : List X) (j : ℕ) (d : X) → first c i xs ≡ None → j < length xs → c (get_or xs j d) ≡ 0
+  -- where the first is none, there is none
+  pub none_at : (i : ℕ) (xs : List X) (j : ℕ) (d : X) → first c i xs ≡ None → j < length xs → c (get_or xs j d) ≡ None
   none_at i [] j d e h = absurd (omega arith)
   none_at i (x ∷ xs) zero d e h = (told_was (c x) i _ e).0
   none_at i (x ∷ xs) (suc j) d e h = none_at (i + 1) xs j d (told_was (c x) i _ e).1 (omega arith)
 
--- the same over two columns side by side
-module _ {X Y : Type 0} (c : X × Y → ℕ) where
-  at_pair : (xs : List X) (ys : List Y) (j : ℕ) (d : X) (e : Y) → j < length xs → j < length ys → {x : X} {y : Y} → x ≡ get_or xs j d → y ≡ get_or ys j e → c (get_or (zip xs ys) j (d, e)) ≡ c (x, y)
-  at_pair xs ys j d e h k {x} {y} p q = ap c (get_or-zip xs ys j (d, e) h k) ∙ ap (λ z. c (z, get_or ys j e)) (sym p) ∙ ap (λ z. c (x, z)) (sym q)
+pub first-map : {X Y : Type 0} (c : Y → Option Cause) (f : X → Y) (i : ℕ) (xs : List X) → first c i (map f xs) ≡ first (λ x. c (f x)) i xs
+first-map c f i [] = refl
+first-map c f i (x ∷ xs) = ap (told (c (f x)) i) (first-map c f (i + 1) xs)
 
-  within : (xs : List X) (ys : List Y) (j : ℕ) → j < length xs → j < length ys → j < length (zip xs ys)
-  within xs ys j h k = simp length-zip (omega arith)
+zip-map : {X Y Z W : Type 0} (f : X → Z) (g : Y → W) (xs : List X) (ys : List Y) → zip (map f xs) (map g ys) ≡ map (λ (p : X × Y). (f p.0, g p.1)) (zip xs ys)
+zip-map f g [] ys = refl
+zip-map f g (x ∷ xs) [] = refl
+zip-map f g (x ∷ xs) (y ∷ ys) = ap (λ ps. (f x, g y) ∷ ps) (zip-map f g xs ys)
 
-  pub pair_more : (i : ℕ) (xs : List X) (ys : List Y) (j : ℕ) (d : X) (e : Y) → j < length xs → j < length ys → {x : X} {y : Y} → x ≡ get_or xs j d → y ≡ get_or ys j e
-      → c (x, y) ≡ 0 → first c (i + (j + 1)) (drop (j + 1) (zip xs ys)) ≡ first c (i + j) (drop j (zip xs ys))
-  pair_more i xs ys j d e h k p q z = first_more c i (zip xs ys) j (d, e) (within xs ys j h k) (at_pair xs ys j d e h k p q ∙ z)
+-- a loop over numbered items: what it knows of the item at its turn, and after the last
+counted : {X : Type 0} (xs : List X) (n j : ℕ) (x : X) → (n < length (enumerate_from 0 xs)) × ((j, x) ≡ get_or (enumerate_from 0 xs) n (j, x)) → (n < length xs) × (j ≡ n) × (x ≡ get_or xs n x)
+counted {X} xs n j x t =
+    let l : n < length xs = omega (arith, t.0, length-enumerate_from 0 xs) in
+    let e = t.1 ∙ get_or-enumerate_from 0 xs n (j, x) l in
+    (l, ap (λ (p : ℕ × X). p.0) e ∙ zero-add n, ap (λ (p : ℕ × X). p.1) e)
 
-  pub pair_here : (i : ℕ) (xs : List X) (ys : List Y) (j : ℕ) (d : X) (e : Y) → j < length xs → j < length ys → {x : X} {y : Y} → x ≡ get_or xs j d → y ≡ get_or ys j e
-      → {n : ℕ} → n ≡ c (x, y) → (n ≡ 0 → ⊥) → first c (i + j) (drop j (zip xs ys)) ≡ Some (n, i + j)
-  pair_here i xs ys j d e h k p q r f =
-      let s = r ∙ sym (at_pair xs ys j d e h k p q) in
-      first_here c i (zip xs ys) j (d, e) (within xs ys j h k) (λ z. f (s ∙ z)) ∙ ap (λ m. Some (m, i + j)) (sym s)
+module _ {X : Type 0} (c : X → Option Cause) (i : ℕ) (xs : List X) where
+  pub turn_bad : (n j : ℕ) (x : X) {o : Cause} → (n < length (enumerate_from 0 xs)) × ((j, x) ≡ get_or (enumerate_from 0 xs) n (j, x)) → c x ≡ Some o → first c (i + n) (drop n xs) ≡ first c i xs → Some (o, i + j) ≡ first c i xs
+  turn_bad n j x {o} t e inv =
+      let r = counted xs n j x t in
+      ap (λ m. Some (o, i + m)) r.1 ∙ sym (first_here c i xs n x r.0 (ap c (sym r.2) ∙ e)) ∙ inv
 
-  pub pair_all : (i : ℕ) (xs : List X) (ys : List Y) (j : ℕ) → length xs ≤ j → first c i (drop j (zip xs ys)) ≡ None
-  pair_all i xs ys j h = first_all c i (zip xs ys) j (simp length-zip (omega arith))
+  pub turn_fine : (n j : ℕ) (x : X) {m : ℕ} → (n < length (enumerate_from 0 xs)) × ((j, x) ≡ get_or (enumerate_from 0 xs) n (j, x)) → c x ≡ None → first c (i + n) (drop n xs) ≡ first c i xs → m ≡ n + 1 → first c (i + m) (drop m xs) ≡ first c i xs
+  turn_fine n j x t e inv m =
+      let r = counted xs n j x t in
+      ap (λ k. first c (i + k) (drop k xs)) m ∙ first_more c i xs n x r.0 (ap c (sym r.2) ∙ e) ∙ inv
+
+  pub turn_end : (n : ℕ) → n ≡ length (enumerate_from 0 xs) → first c (i + n) (drop n xs) ≡ first c i xs → None ≡ first c i xs
+  turn_end n e inv = sym (first_all c (i + n) xs n (omega (arith, length-enumerate_from 0 xs))) ∙ inv
+
+pub first-pairs : {X Y Z W : Type 0} (c : Z × W → Option Cause) (f : X → Z) (g : Y → W) (i : ℕ) (xs : List X) (ys : List Y) → first (λ (p : X × Y). c (f p.0, g p.1)) i (zip xs ys) ≡ first c i (zip (map f xs) (map g ys))
+first-pairs c f g i xs ys = sym (ap (first c i) (zip-map f g xs ys) ∙ first-map c _ i (zip xs ys))

@@ -6,47 +6,49 @@ use Rattle.std.proofs.lemmas.List.{drop-drop, get_or-take, get_or-drop, length-m
 use Rattle.std.proofs.lemmas.Slice.Zip.{get_or-zip, length-zip}
 use Rattle.std.proofs.lemmas.Bool.{cases_eq, cond_both, cond-true, cond-false, lt-ltb, le-ltb, eqb-true}
 use Rattle.strength.specs.Kind.{Kind}
+use Rattle.book.specs.declared.faults.Cause.{Cause}
+use Rattle.book.specs.declared.faults.Cause.TheVariants.{ShortBook, WrongLength, OutOfRange, UnlawfulWord, SelfClash}
 use Rattle.book.specs.declared.form.Column.{Column}
 use Rattle.book.specs.declared.form.Limit.{Limit}
 use Rattle.book.specs.declared.form.Sizes.{Sizes}
 use Rattle.book.specs.declared.form.Test.{Test}
 use Rattle.book.specs.declared.form.Test.TheVariants.{Below, Key, Strength}
 use Rattle.book.specs.Words.{word_of, words}
-use Rattle.book.specs.Causes.{size_cause, cause, clash_cause, told, first, or_else}
+use Rattle.book.specs.Causes.{number, size_cause, cause, clash_cause, told, first, or_else}
 use Rattle.book.specs.Form.{limits, listed_sizes, sizes_of, in_sizes, columns, total, in_columns, last_at, in_clashes, due, judged, refusal}
 use Rattle.book.specs.Least.{size_cause_at, column_cause_at, clash_cause_at, cause_at, Least, FirstCause}
 
-module _ (f : ℕ → ℕ) where
+module _ (f : ℕ → Option Cause) where
   -- no place before p has a cause
   abbrev Clear : ℕ → Type 0
-  Clear p = (i : ℕ) → i < p → f i ≡ 0
+  Clear p = (i : ℕ) → i < p → f i ≡ None
 
   -- what a search of the places from a to below b finds
-  abbrev Finds : ℕ → ℕ → Option (ℕ × ℕ) → Type 0
+  abbrev Finds : ℕ → ℕ → Option (Cause × ℕ) → Type 0
   Finds a b (Some r) = Least f a b r.0 r.1
   Finds a b None = Clear b
 
-  clear_more : (p : ℕ) → Clear p → f p ≡ 0 → Clear (p + 1)
-  clear_more p h e i l = elim (cases_eq p i) [ inl here ↦ subst (λ (j : ℕ). f j ≡ 0) here e | inr ne ↦ h i (omega arith) ]
+  clear_more : (p : ℕ) → Clear p → f p ≡ None → Clear (p + 1)
+  clear_more p h e i l = elim (cases_eq p i) [ inl here ↦ subst (λ (j : ℕ). f j ≡ None) here e | inr ne ↦ h i (omega arith) ]
 
-  wider : (a m l b n p : ℕ) → a ≤ m → l ≤ b → Least f m l n p → Least f a b n p
-  wider a m l b n p h j t = record { from = omega (arith, t.from); below = omega (arith, t.below); here = t.here; before = t.before }
+  wider : (a m l b : ℕ) (c : Cause) (p : ℕ) → a ≤ m → l ≤ b → Least f m l c p → Least f a b c p
+  wider a m l b c p h j t = record { from = omega (arith, t.from); below = omega (arith, t.below); here = t.here; before = t.before }
 
-  later : (a m b : ℕ) (o : Option (ℕ × ℕ)) → a ≤ m → Finds m b o → Finds a b o
+  later : (a m b : ℕ) (o : Option (Cause × ℕ)) → a ≤ m → Finds m b o → Finds a b o
   later a m b (Some r) h t = wider a m b b r.0 r.1 h (omega arith) t
   later a m b None h t = t
 
   -- one search after another
-  join : (a m b : ℕ) (o q : Option (ℕ × ℕ)) → a ≤ m → m ≤ b → Finds a m o → (Clear m → Finds m b q) → Finds a b (or_else o q)
+  join : (a m b : ℕ) (o q : Option (Cause × ℕ)) → a ≤ m → m ≤ b → Finds a m o → (Clear m → Finds m b q) → Finds a b (or_else o q)
   join a m b (Some r) q h l t u = wider a a m b r.0 r.1 (omega arith) l t
   join a m b None q h l t u = later a m b q h (u t)
 
-  step : (a b n : ℕ) (o : Option (ℕ × ℕ)) → a < b → f a ≡ n → Clear a → (Clear (a + 1) → Finds (a + 1) b o) → Finds a b (told n a o)
-  step a b zero o h e t u = later a (a + 1) b o (omega arith) (u (clear_more a t e))
-  step a b (suc n) o h e t u = record { from = omega arith; below = h; here = e; before = t }
+  step : (a b : ℕ) (c : Option Cause) (o : Option (Cause × ℕ)) → a < b → f a ≡ c → Clear a → (Clear (a + 1) → Finds (a + 1) b o) → Finds a b (told c a o)
+  step a b None o h e t u = later a (a + 1) b o (omega arith) (u (clear_more a t e))
+  step a b (Some c) o h e t u = record { from = omega arith; below = h; here = e; before = t }
 
   -- the search of a list whose causes f tells
-  found : {X : Type 0} (c : X → ℕ) (d : X) (xs : List X) (a b : ℕ) → b ≡ a + length xs → ((j : ℕ) → j < length xs → f (a + j) ≡ c (get_or xs j d)) → Clear a → Finds a b (first c a xs)
+  found : {X : Type 0} (c : X → Option Cause) (d : X) (xs : List X) (a b : ℕ) → b ≡ a + length xs → ((j : ℕ) → j < length xs → f (a + j) ≡ c (get_or xs j d)) → Clear a → Finds a b (first c a xs)
   found c d [] a b e g t = λ i l. t i (omega arith)
   found c d (x ∷ xs) a b e g t =
       step a b (c x) (first c (a + 1) xs) (omega arith) (ap f (omega arith) ∙ g 0 (omega arith)) t
@@ -55,25 +57,30 @@ module _ (f : ℕ → ℕ) where
 abbrev no_limit : Limit
 no_limit = record { least = 0; most = 0 }
 
+-- the number of a cause, 0 for none
+abbrev code : Option Cause → ℕ
+code None = 0
+code (Some c) = number c
+
 -- the causes of sizes
-size-causes : (r : Limit × ℕ) → size_cause r ≤ 2
-size-causes (l, w) = cond_both (leb l.least w) _ _ (λ n. n ≤ 2) (λ _. cond_both (leb w l.most) _ _ (λ n. n ≤ 2) (λ _. omega arith) (λ _. omega arith)) (λ _. omega arith)
+size-causes : (r : Limit × ℕ) → code (size_cause r) ≤ 2
+size-causes (l, w) = cond_both (leb l.least w) _ _ (λ o. code o ≤ 2) (λ _. cond_both (leb w l.most) _ _ (λ o. code o ≤ 2) (λ _. omega arith) (λ _. omega arith)) (λ _. omega arith)
 
 -- the causes of words are others
-abbrev OfWord : ℕ → Type 0
-OfWord n = n ≡ 2 → ⊥
+abbrev OfWord : Option Cause → Type 0
+OfWord o = code o ≡ 2 → ⊥
 
-either_word : (b : Bool) (m n : ℕ) → OfWord m → OfWord n → OfWord (cond b m n)
+either_word : (b : Bool) (m n : Option Cause) → OfWord m → OfWord n → OfWord (cond b m n)
 either_word true m n p q = p
 either_word false m n p q = q
 
 causes : {S : Type 0} (k : Kind S) (t : Test) (w : ℕ) → OfWord (cause k t w)
-causes k (Below limit) w = either_word (ltb w limit) 0 4 (λ e. omega arith) (λ e. omega arith)
-causes k (Key posts steps) w = either_word (ltb (w / 64) posts) _ 4 (either_word (ltb (w % 64) steps) 0 4 (λ e. omega arith) (λ e. omega arith)) (λ e. omega arith)
-causes k Strength w = either_word (is_some (k.of_word w)) 0 5 (λ e. omega arith) (λ e. omega arith)
+causes k (Below limit) w = either_word (ltb w limit) None (Some OutOfRange) (λ e. omega arith) (λ e. omega arith)
+causes k (Key posts steps) w = either_word (ltb (w / 64) posts) _ (Some OutOfRange) (either_word (ltb (w % 64) steps) None (Some OutOfRange) (λ e. omega arith) (λ e. omega arith)) (λ e. omega arith)
+causes k Strength w = either_word (is_some (k.of_word w)) None (Some UnlawfulWord) (λ e. omega arith) (λ e. omega arith)
 
 clash_causes : (steps : ℕ) (r : ℕ × ℕ) → OfWord (clash_cause steps r)
-clash_causes steps (one, other) = either_word (ltb other steps) _ 4 (either_word (eqb one other) 6 0 (λ e. omega arith) (λ e. omega arith)) (λ e. omega arith)
+clash_causes steps (one, other) = either_word (ltb other steps) _ (Some OutOfRange) (either_word (eqb one other) (Some SelfClash) None (λ e. omega arith) (λ e. omega arith)) (λ e. omega arith)
 
 column_causes : {S : Type 0} (k : Kind S) (cs : List Column) (a : ℕ) (ws : List ℕ) (i : ℕ) → OfWord (column_cause_at k cs a ws i)
 column_causes k [] a ws i = λ e. omega arith
@@ -109,7 +116,7 @@ pair_at ws n p q j h l i =
     get_or-zip (take n (drop p ws)) (take n (drop q ws)) j (0, 0) (omega arith) (omega arith) ∙ ap₂ (λ x y. (x, y)) (part_at ws n p j i) (part_at ws n q j i)
 
 -- the search of columns that f tells
-module _ {S : Type 0} (k : Kind S) (ws : List ℕ) (f : ℕ → ℕ) where
+module _ {S : Type 0} (k : Kind S) (ws : List ℕ) (f : ℕ → Option Cause) where
   in_part : (c : Column) (a : ℕ) → a + c.size ≤ length ws → ((i : ℕ) → a ≤ i → i < a + c.size → f i ≡ cause k c.test (get_or ws i 0)) → Clear f a
       → Finds f a (a + c.size) (first (cause k c.test) a (take c.size (drop a ws)))
   in_part c a h g =
@@ -146,11 +153,11 @@ module _ {S : Type 0} (k : Kind S) (ws : List ℕ) where
   at_clash i h = at_word i (omega arith) ∙ cond-false (ltb i (last_at s)) _ _ (le-ltb i (last_at s) h)
 
   -- which numbers are of sizes, and which of words
-  of_size : (n p : ℕ) → p < 8 → cause_at k ws p ≡ n → 3 < n → ⊥
-  of_size n p h e l = let v = size-causes (get_or limits p no_limit, get_or ws p 0) in let q : size_cause_at ws p ≡ n = sym (at_size p h) ∙ e in omega arith
+  of_size : (c : Cause) (p : ℕ) → p < 8 → cause_at k ws p ≡ Some c → 3 < number c → ⊥
+  of_size c p h e l = let v = size-causes (get_or limits p no_limit, get_or ws p 0) in let q : code (size_cause_at ws p) ≡ number c = ap code (sym (at_size p h) ∙ e) in omega arith
 
   of_word : (p : ℕ) → 8 ≤ p → OfWord (cause_at k ws p)
-  of_word p h e = either_word (ltb p (last_at s)) _ _ (column_causes k (columns s) 8 ws p) (clash_causes s.steps (get_or ws (p - s.clashes) 0, get_or ws p 0)) (sym (at_word p h) ∙ e)
+  of_word p h e = either_word (ltb p (last_at s)) _ _ (column_causes k (columns s) 8 ws p) (clash_causes s.steps (get_or ws (p - s.clashes) 0, get_or ws p 0)) (sym (ap code (at_word p h)) ∙ e)
 
   finds_size : Finds (cause_at k ws) 0 8 (in_sizes s)
   finds_size =
@@ -187,20 +194,20 @@ module _ {S : Type 0} (k : Kind S) (bs : List ℕ) where
   abbrev ws : List ℕ
   ws = words bs
 
-  abbrev f : ℕ → ℕ
+  abbrev f : ℕ → Option Cause
   f = cause_at k ws
 
   -- what a refusal tells
-  abbrev Tells : Option (ℕ × ℕ) → Type 0
-  Tells (Some r) = ((r.0 ≡ 1) ⊎ (r.0 ≡ 3)) ⊎ (Least f 0 8 r.0 r.1 ⊎ Least f 8 (length ws) r.0 r.1)
+  abbrev Tells : Option (Cause × ℕ) → Type 0
+  Tells (Some r) = ((number r.0 ≡ 1) ⊎ (number r.0 ≡ 3)) ⊎ (Least f 0 8 r.0 r.1 ⊎ Least f 8 (length ws) r.0 r.1)
   Tells None = Clear f (length ws)
 
-  word_tells : (w : Option (ℕ × ℕ)) → Finds f 8 (length ws) w → Tells w
+  word_tells : (w : Option (Cause × ℕ)) → Finds f 8 (length ws) w → Tells w
   word_tells (Some r) t = inr (inr t)
   word_tells None t = t
 
-  tells : (m d : ℕ) (short : Bool) (o : Option (ℕ × ℕ)) (whole : Bool) (w : Option (ℕ × ℕ)) → Finds f 0 8 o → (whole ≡ true → Clear f 8 → Finds f 8 (length ws) w)
-      → Tells (cond short (Some (1, m)) (or_else o (cond whole w (Some (3, d)))))
+  tells : (m d : ℕ) (short : Bool) (o : Option (Cause × ℕ)) (whole : Bool) (w : Option (Cause × ℕ)) → Finds f 0 8 o → (whole ≡ true → Clear f 8 → Finds f 8 (length ws) w)
+      → Tells (cond short (Some (ShortBook, m)) (or_else o (cond whole w (Some (WrongLength, d)))))
   tells m d true o whole w s t = inl (inl refl)
   tells m d false (Some r) whole w s t = inr (inl s)
   tells m d false None true w s t = word_tells w (t refl s)
@@ -219,12 +226,12 @@ module _ {S : Type 0} (k : Kind S) (bs : List ℕ) where
       | inl (inl q) ↦ absurd (omega arith)
       | inl (inr q) ↦ absurd (omega arith)
       | inr (inl t) ↦ t
-      | inr (inr t) ↦ absurd (of_word k ws p t.from t.here)
+      | inr (inr t) ↦ absurd (of_word k ws p t.from (ap code t.here))
     ];
-    word = λ n p h e. elim (subst Tells e refusal_tells) [
+    word = λ c p h e. elim (subst Tells e refusal_tells) [
       | inl (inl q) ↦ absurd (omega arith)
       | inl (inr q) ↦ absurd (omega arith)
-      | inr (inl t) ↦ absurd (of_size k ws n p t.below t.here h)
+      | inr (inl t) ↦ absurd (of_size k ws c p t.below t.here h)
       | inr (inr t) ↦ t
     ];
     none = λ e. subst Tells e refusal_tells;

@@ -1,10 +1,11 @@
 -- The numbers of a book's rows are in range, row by row.
-use Rattle.std.proofs.Common.{◌≡◌, ℕ, zero, suc, true, List, [], ◌∷◌, map, length, drop, refl, ap, ◌∙◌, inl, inr, arith}
+use Rattle.std.proofs.Common.{◌≡◌, ℕ, true, List, [], ◌∷◌, map, length, drop, is_none, Some, None, Option, refl, ap, ◌∙◌, inl, inr, arith}
 use mathlib.Core.List.Memᴰ
 use mathlib.Core.List.{Memᴰ}
 use Rattle.std.specs.List.{zip}
 use Rattle.std.proofs.lemmas.Bool.{and_parts, false≢true}
-use Rattle.book.specs.Causes.{clean, no_cause, number_cause, size_cause}
+use Rattle.book.specs.declared.faults.Cause.{Cause}
+use Rattle.book.specs.Causes.{clean, number_cause, size_cause}
 use Rattle.book.specs.Covering.{StepsInRange}
 use Rattle.book.specs.Playing.{PlaysInRange}
 use Rattle.book.specs.Form.{limits, listed_sizes}
@@ -13,16 +14,16 @@ use Rattle.book.proofs.Cutting.{in_range}
 use Rattle.book.proofs.Fitting.{fine-drop}
 use Rattle.book.proofs.Sound.{fits_small}
 
-no_cause-none : (n : ℕ) → no_cause n ≡ true → n ≡ 0
-no_cause-none zero e = refl
-no_cause-none (suc n) e = absurd (false≢true e)
+is_none-none : (o : Option Cause) → is_none o ≡ true → o ≡ None
+is_none-none None e = refl
+is_none-none (Some c) e = absurd (false≢true e)
 
 -- no word of a clean column has a cause
-clean_member : {X : Type 0} (c : ℕ → ℕ) (f : X → ℕ) (xs : List X) (x : X) → clean c (map f xs) ≡ true → Memᴰ x xs → c (f x) ≡ 0
+clean_member : {X : Type 0} (c : ℕ → Option Cause) (f : X → ℕ) (xs : List X) (x : X) → clean c (map f xs) ≡ true → Memᴰ x xs → c (f x) ≡ None
 clean_member c f [] x e m = absurd (Memᴰ.not-nil m)
 clean_member c f (y ∷ xs) x e m =
-    let p = and_parts (no_cause (c (f y))) (clean c (map f xs)) e in
-    elim (Memᴰ.cases_cons m) [ inl q ↦ ap (λ z. c (f z)) q ∙ no_cause-none (c (f y)) p.0 | inr r ↦ clean_member c f xs x p.1 r ]
+    let p = and_parts (is_none (c (f y))) (clean c (map f xs)) e in
+    elim (Memᴰ.cases_cons m) [ inl q ↦ ap (λ z. c (f z)) q ∙ is_none-none (c (f y)) p.0 | inr r ↦ clean_member c f xs x p.1 r ]
 
 module _ {S : Type 0} (r : Rules S) (e : fits r ≡ true) where
   columns-fine : (n : ℕ) → fine number_test (drop n (filled (λ _. 0) r)) ≡ true

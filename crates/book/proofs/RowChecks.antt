@@ -4,6 +4,7 @@ use Rattle.std.specs.List.{zip}
 use Rattle.std.specs.Result.{result_and, result_err}
 use Rattle.std.proofs.lemmas.List.{length-map}
 use Rattle.strength.specs.Kind.{Kind}
+use Rattle.book.specs.declared.faults.Cause.{Cause}
 use Rattle.book.specs.declared.form.Test.{Test}
 use Rattle.book.specs.declared.form.Test.TheVariants.{Below, Key, Strength}
 use Rattle.book.specs.Causes.{cause, clash_cause, first, or_else}
@@ -14,17 +15,24 @@ use Rattle.book.specs.Rules.{Rules, filled, others, sizes_in, words_in}
 use Rattle.book.proofs.Fitting.{bad}
 use Rattle.book.proofs.Sound.{clashes_bad, columns-bad}
 
-or_assoc : (a b c : Option (ℕ × ℕ)) → or_else (or_else a b) c ≡ or_else a (or_else b c)
+or_assoc : (a b c : Option (Cause × ℕ)) → or_else (or_else a b) c ≡ or_else a (or_else b c)
 or_assoc (Some f) b c = refl
 or_assoc None b c = refl
 
-pub and_then : (r s : Result (Unit {0}) (ℕ × ℕ)) {a b : Option (ℕ × ℕ)} → result_err r ≡ a → result_err s ≡ b → result_err (result_and r s) ≡ or_else a b
+-- the first of two searches finds something, or the second one decides
+pub or_found : {f : Cause × ℕ} (a b : Option (Cause × ℕ)) → Some f ≡ a → Some f ≡ or_else a b
+or_found a b e = ap (λ o. or_else o b) e
+
+pub or_passed : (a b : Option (Cause × ℕ)) {o : Option (Cause × ℕ)} → None ≡ a → o ≡ b → o ≡ or_else a b
+or_passed a b e f = f ∙ ap (λ o. or_else o b) e
+
+pub and_then : (r s : Result (Unit {0}) (Cause × ℕ)) {a b : Option (Cause × ℕ)} → result_err r ≡ a → result_err s ≡ b → result_err (result_and r s) ≡ or_else a b
 and_then (Ok x) s {a} {b} p q = q ∙ ap (λ o. or_else o b) p
 and_then (Err e) s {a} {b} p q = ap (λ o. or_else o b) p
 
 module _ {S : Type 0} (k : Kind S) where
   -- the first bad word of a table whose first column begins at place p
-  abbrev pub in_table : {R : Type 0} → Layout R → List R → ℕ → Test → Test → Option (ℕ × ℕ)
+  abbrev pub in_table : {R : Type 0} → Layout R → List R → ℕ → Test → Test → Option (Cause × ℕ)
   in_table f rs p t u = or_else (first (cause k t) p (map f.first_word rs)) (first (cause k u) (p + length rs) (map f.second_word rs))
 
 module _ {S : Type 0} (k : Kind S) (r : Rules S) where
@@ -44,7 +52,7 @@ module _ {S : Type 0} (k : Kind S) (r : Rules S) where
   clashes_place = bars_place + length r.bars + length r.bars
 
   -- the first bad word of all columns but the last, where they begin at these places
-  abbrev all_at : ℕ → ℕ → ℕ → ℕ → ℕ → ℕ → ℕ → ℕ → ℕ → Option (ℕ × ℕ)
+  abbrev all_at : ℕ → ℕ → ℕ → ℕ → ℕ → ℕ → ℕ → ℕ → ℕ → Option (Cause × ℕ)
   all_at a b c d e f g h i =
       or_else (first (cause k (Below 16777216)) 8 (map (λ m. m.0) r.marks))
       (or_else (first (cause k (Below (length r.marks))) a (map (λ p. p.person.0) r.plays))
@@ -61,11 +69,11 @@ module _ {S : Type 0} (k : Kind S) (r : Rules S) where
       ≡ all_at plays_place (plays_place + length r.plays) covers_place (covers_place + length r.covers) holds_place (holds_place + length r.holds) bars_place (bars_place + length r.bars) clashes_place
   all_bad = simp length-map
 
-  abbrev clashes_checked : Option (ℕ × ℕ)
+  abbrev clashes_checked : Option (Cause × ℕ)
   clashes_checked = or_else (first (cause k (Below r.steps)) clashes_place (map (λ p. p.one.0) r.clashes)) (first (clash_cause r.steps) (last_at (sizes_in r)) (zip (map (λ p. p.one.0) r.clashes) (others r)))
 
   -- six checks, one after another
-  pub rows_checked : (marks plays covers holds bars clashes : Result (Unit {0}) (ℕ × ℕ))
+  pub rows_checked : (marks plays covers holds bars clashes : Result (Unit {0}) (Cause × ℕ))
       → result_err marks ≡ first (cause k (Below 16777216)) 8 (map (λ m. m.0) r.marks)
       → result_err plays ≡ in_table k play_layout r.plays plays_place (Below (length r.marks)) (Below r.posts)
       → result_err covers ≡ in_table k cover_layout r.covers covers_place (Below r.steps) (Below r.steps)

@@ -1,19 +1,21 @@
 -- Sizes within their limits.
-use Rattle.std.proofs.Common.{◌≡◌, ℕ, ◌<◌, ◌≤◌, Bool, true, false, cond, leb, get_or, None, refl, arith, lit<}
+use Rattle.std.proofs.Common.{◌≡◌, ℕ, ◌<◌, ◌≤◌, Bool, true, false, cond, leb, get_or, Some, None, sym, refl, arith, lit<}
 use Rattle.std.specs.List.{zip}
 use Rattle.std.proofs.lemmas.Bool.{leb-true}
+use Rattle.std.proofs.lemmas.Option.{none-some}
+use Rattle.book.specs.declared.faults.Cause.TheVariants.{SizeOutOfLimits}
 use Rattle.book.specs.declared.form.Limit.{Limit}
 use Rattle.book.specs.declared.form.Sizes.{Sizes}
 use Rattle.book.specs.Causes.{size_cause}
 use Rattle.book.specs.Form.{Small, columns, in_sizes, limits, listed_sizes, total}
 use Rattle.book.proofs.FirstCauses.{none_at}
 
-under : (a b : Bool) → ◌≡◌ {A = ℕ} (cond a (cond b 0 2) 2) 0 → b ≡ true
+under : (a b : Bool) → cond a (cond b None (Some SizeOutOfLimits)) (Some SizeOutOfLimits) ≡ None → b ≡ true
 under true true e = refl
-under true false e = absurd (omega arith)
-under false b e = absurd (omega arith)
+under true false e = absurd (none-some _ (sym e))
+under false b e = absurd (none-some _ (sym e))
 
-within : (l : Limit) (w : ℕ) → size_cause (l, w) ≡ 0 → w ≤ l.most
+within : (l : Limit) (w : ℕ) → size_cause (l, w) ≡ None → w ≤ l.most
 within l w e = leb-true w l.most (under (leb l.least w) (leb w l.most) e)
 
 abbrev none : Limit × ℕ
@@ -21,7 +23,7 @@ none = (record { least = 0; most = 0 }, 0)
 
 pub small : (s : Sizes) → in_sizes s ≡ None → Small s
 small s e =
-    let at : (j : ℕ) → j < 8 → size_cause (get_or (zip limits (listed_sizes s)) j none) ≡ 0 = λ j h. none_at size_cause 0 (zip limits (listed_sizes s)) j none e h in
+    let at : (j : ℕ) → j < 8 → size_cause (get_or (zip limits (listed_sizes s)) j none) ≡ None = λ j h. none_at size_cause 0 (zip limits (listed_sizes s)) j none e h in
     record {
       people = within _ _ (at 0 (lit< tt));
       posts = within _ _ (at 1 (lit< tt));

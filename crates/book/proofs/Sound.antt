@@ -1,13 +1,15 @@
 -- A sound book's rows fit, and rows that fit make a sound book.
-use Rattle.std.proofs.Common.{◌≡◌, ℕ, ◌+◌, ◌-◌, Bool, true, cond, ◌&&◌, List, [], ◌∷◌, ◌++◌, map, length, take, drop, is_some, None, sym, refl, ap, ◌∙◌, append_assoc, append-nil, arith}
+use Rattle.std.proofs.Common.{◌≡◌, ℕ, ◌+◌, ◌-◌, Bool, true, cond, ◌&&◌, List, [], ◌∷◌, ◌++◌, map, length, take, drop, is_some, is_none, Some, None, Option, sym, refl, ap, ◌∙◌, append_assoc, append-nil, arith}
 use Rattle.std.specs.List.{zip}
 use Rattle.std.proofs.lemmas.List.{take_at, drop_at, take_all, length-append, length-map}
 use Rattle.std.proofs.lemmas.Bool.{and_from, and_parts}
 use Rattle.strength.specs.Kind.{Kind, ReadsBack}
+use Rattle.book.specs.declared.faults.Cause.{Cause}
+use Rattle.book.specs.declared.faults.Cause.TheVariants.{UnlawfulWord}
 use Rattle.book.specs.declared.form.Test.{Test}
 use Rattle.book.specs.declared.form.Test.TheVariants.{Below, Key, Strength}
 use Rattle.book.specs.declared.rows.Entry.{Entry}
-use Rattle.book.specs.Causes.{cause, first, clean, no_cause, clash_cause, size_cause}
+use Rattle.book.specs.Causes.{cause, first, clean, clash_cause, size_cause}
 use Rattle.book.specs.Form.{columns, in_columns, in_clashes, judged, total, due, last_at, listed_sizes, limits, Small}
 use Rattle.book.specs.Entries.{key_word}
 use Rattle.book.specs.Rules.{Rules, sizes_in, filled, others, words_in, written, number_test, fine, fits}
@@ -16,7 +18,7 @@ use Rattle.book.proofs.Overs.{length-spelled}
 use Rattle.book.proofs.Fitting.{clean-none, none-clean, or_both, headed, poured, bad, in_headed, fine_good, good_fine, total-headed}
 use Rattle.book.proofs.Judged.{by-words, judged-parts}
 
-clash_cut : (c : ℕ × ℕ → ℕ) (l n : ℕ) (front us bs ws : List ℕ) → ws ≡ front ++ (us ++ bs) → length front + n ≡ l → length us ≡ n → length bs ≡ n
+clash_cut : (c : ℕ × ℕ → Option Cause) (l n : ℕ) (front us bs ws : List ℕ) → ws ≡ front ++ (us ++ bs) → length front + n ≡ l → length us ≡ n → length bs ≡ n
     → first c l (zip (take n (drop (l - n) ws)) (take n (drop l ws))) ≡ first c l (zip us bs)
 clash_cut c l n front us bs ws e h p q =
     let a : take n (drop (l - n) ws) ≡ us = ap (λ t. take n (drop (l - n) t)) e ∙ ap (take n) (drop_at front (us ++ bs) (l - n) (omega arith)) ∙ take_at us bs n p in
@@ -25,7 +27,7 @@ clash_cut c l n front us bs ws e h p q =
 
 lawful_clean : {S : Type 0} (k : Kind S) → ReadsBack k → (es : List (Entry S)) → clean (cause k Strength) (map (λ p. k.word p.strength) es) ≡ true
 lawful_clean k law [] = refl
-lawful_clean k law (e ∷ es) = ap (λ o. no_cause (cond (is_some o) 0 5) && clean (cause k Strength) (map (λ p. k.word p.strength) es)) (law e.strength) ∙ lawful_clean k law es
+lawful_clean k law (e ∷ es) = ap (λ o. is_none (cond (is_some o) None (Some UnlawfulWord)) && clean (cause k Strength) (map (λ p. k.word p.strength) es)) (law e.strength) ∙ lawful_clean k law es
 
 zero_clean : {S : Type 0} (es : List (Entry S)) → clean (number_test Strength) (map (λ p. 0) es) ≡ true
 zero_clean [] = refl

@@ -1,12 +1,13 @@
 -- The words of a book that fits are read back from its bytes.
-use Rattle.std.proofs.Common.{◌≡◌, ℕ, ◌/◌, ◌%◌, ◌<◌, ◌≤◌, Bool, true, false, cond, eqb, ltb, List, [], ◌∷◌, ◌++◌, map, length, drop, None, sym, refl, ap, ◌∙◌, arith}
+use Rattle.std.proofs.Common.{◌≡◌, ℕ, ◌/◌, ◌%◌, ◌<◌, ◌≤◌, Bool, true, false, cond, eqb, ltb, List, [], ◌∷◌, ◌++◌, map, length, drop, is_none, Some, None, sym, refl, ap, ◌∙◌, arith}
 use Rattle.std.specs.List.{zip}
 use Rattle.std.specs.Simd.{first_chunks}
 use Rattle.std.proofs.lemmas.List.{take_at, drop_at, length-map}
 use Rattle.std.proofs.lemmas.Bool.{and_parts, ltb-true}
 use Rattle.strength.specs.Kind.{Kind, Bounded, ReadsBack}
+use Rattle.book.specs.declared.faults.Cause.TheVariants.{OutOfRange, SelfClash}
 use Rattle.book.specs.Words.{word_of, bytes_of, words, spelled}
-use Rattle.book.specs.Causes.{number_cause, key_cause, clash_cause, size_cause, no_cause, clean}
+use Rattle.book.specs.Causes.{number_cause, key_cause, clash_cause, size_cause, clean}
 use Rattle.book.specs.Form.{refusal, judged, sizes_of, listed_sizes, limits}
 use Rattle.book.specs.Entries.{key_word}
 use Rattle.book.specs.Rules.{Rules, sizes_in, filled, others, words_in, written, fine, number_test, fits}
@@ -46,29 +47,29 @@ under_map : {X : Type 0} (f : X → ℕ) → ((x : X) → f x < 1844674407370955
 under_map f b [] = tt
 under_map f b (x ∷ xs) = (b x, under_map f b xs)
 
-passed : (b : Bool) → no_cause (cond b 0 4) ≡ true → b ≡ true
+passed : (b : Bool) → is_none (cond b None (Some OutOfRange)) ≡ true → b ≡ true
 passed true e = refl
 passed false e = e
 
-passed_two : (a b : Bool) → no_cause (cond a (cond b 0 4) 4) ≡ true → a ≡ true
+passed_two : (a b : Bool) → is_none (cond a (cond b None (Some OutOfRange)) (Some OutOfRange)) ≡ true → a ≡ true
 passed_two true b e = refl
 passed_two false b e = e
 
 under_number : (l : ℕ) → l ≤ 18446744073709551616 → (xs : List ℕ) → clean (number_cause l) xs ≡ true → Under xs
 under_number l h [] e = tt
 under_number l h (x ∷ xs) e =
-    let p = and_parts (no_cause (number_cause l x)) (clean (number_cause l) xs) e in
+    let p = and_parts (is_none (number_cause l x)) (clean (number_cause l) xs) e in
     let q = ltb-true x l (passed (ltb x l) p.0) in
     (omega arith, under_number l h xs p.1)
 
 under_key : (p s : ℕ) → p ≤ 64 → (xs : List ℕ) → clean (key_cause p s) xs ≡ true → Under xs
 under_key p s h [] e = tt
 under_key p s h (x ∷ xs) e =
-    let q = and_parts (no_cause (key_cause p s x)) (clean (key_cause p s) xs) e in
+    let q = and_parts (is_none (key_cause p s x)) (clean (key_cause p s) xs) e in
     let t = ltb-true (x / 64) p (passed_two (ltb (x / 64) p) (ltb (x % 64) s) q.0) in
     (omega arith, under_key p s h xs q.1)
 
-clash_passed : (a b : Bool) → no_cause (cond a (cond b 6 0) 4) ≡ true → a ≡ true
+clash_passed : (a b : Bool) → is_none (cond a (cond b (Some SelfClash) None) (Some OutOfRange)) ≡ true → a ≡ true
 clash_passed true b e = refl
 clash_passed false b e = e
 
@@ -76,7 +77,7 @@ under_clash : (s : ℕ) → s ≤ 64 → (xs ys : List ℕ) → length xs ≡ le
 under_clash s h xs [] l e = tt
 under_clash s h [] (y ∷ ys) l e = absurd (omega arith)
 under_clash s h (x ∷ xs) (y ∷ ys) l e =
-    let q = and_parts (no_cause (clash_cause s (x, y))) (clean (clash_cause s) (zip xs ys)) e in
+    let q = and_parts (is_none (clash_cause s (x, y))) (clean (clash_cause s) (zip xs ys)) e in
     let t = ltb-true y s (clash_passed (ltb y s) (eqb x y) q.0) in
     (omega arith, under_clash s h xs ys (omega arith) q.1)
 

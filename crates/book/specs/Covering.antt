@@ -1,6 +1,7 @@
 -- Which step covers which, by the rows of a book.
-use Rattle.std.specs.Prelude.{◌≡◌, ℕ, ◌+◌, ◌*◌, ◌<◌, Bool, false, List, length, Decides, slice_index_or}
+use Rattle.std.specs.Prelude.{ℕ, ◌<◌, Bool, List, Decides}
 use mathlib.Core.List.{Memᴰ}
+use Rattle.book.specs.Flags.{flag_at}
 use Rattle.book.specs.declared.rows.Cover.{Cover}
 
 -- a step covers itself, and the weaker step of a row whose stronger step it covers
@@ -12,10 +13,10 @@ pub data Covers (rows : List Cover) (a : ℕ) : ℕ → Type 0 where
 abbrev pub StepsInRange : List Cover → Type 0
 StepsInRange rows = (row : Cover) → Memᴰ row rows → (row.stronger.0 < 64) × (row.weaker.0 < 64)
 
--- place a * 64 + b of the table says whether step a covers step b
-abbrev pub TellsCovering : List Cover → List Bool → Type 0
-TellsCovering rows table = (a b : ℕ) → a < 64 → b < 64 → Decides (slice_index_or table (a * 64 + b) false) (Covers rows a b)
+-- row a of the table says at column b whether step a covers step b
+abbrev pub TellsCovering : List Cover → List (List Bool) → Type 0
+TellsCovering rows table = (a b : ℕ) → a < 64 → b < 64 → Decides (flag_at table a b) (Covers rows a b)
 
 -- the table is that of these rows; truncated, since a fact in a ghost field has one proof only
-abbrev pub CoveringExact : List Cover → List Bool → Type 0
-CoveringExact rows table = StepsInRange rows × (length table ≡ 4096) × ∥ TellsCovering rows table ∥₁
+abbrev pub CoveringExact : List Cover → List (List Bool) → Type 0
+CoveringExact rows table = StepsInRange rows × ∥ TellsCovering rows table ∥₁

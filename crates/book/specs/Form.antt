@@ -2,6 +2,8 @@
 use Rattle.std.specs.Prelude.{ℕ, ◌+◌, ◌-◌, ◌*◌, ◌≤◌, cond, List, [], ◌∷◌, length, take, drop, Some, None, Option, ◌==◌, nat_lt, slice_index}
 use Rattle.std.specs.List.{zip}
 use Rattle.strength.specs.Kind.{Kind}
+use Rattle.book.specs.declared.faults.Cause.{Cause}
+use Rattle.book.specs.declared.faults.Cause.TheVariants.{ShortBook, WrongLength}
 use Rattle.book.specs.declared.form.Limit.{Limit}
 use Rattle.book.specs.declared.form.Sizes.{Sizes}
 use Rattle.book.specs.declared.form.Column.{Column}
@@ -32,7 +34,7 @@ sizes_of ws = record {
 }
 
 -- the first size outside its limits
-abbrev pub in_sizes : Sizes → Option (ℕ × ℕ)
+abbrev pub in_sizes : Sizes → Option (Cause × ℕ)
 in_sizes s = first size_cause 0 (zip limits (listed_sizes s))
 
 -- no size is above its limit
@@ -67,7 +69,7 @@ total [] = 0
 total (c ∷ cs) = c.size + total cs
 
 -- the first bad word of columns that begin at place i with these words
-abbrev pub in_columns : {S : Type 0} → Kind S → List Column → ℕ → List ℕ → Option (ℕ × ℕ)
+abbrev pub in_columns : {S : Type 0} → Kind S → List Column → ℕ → List ℕ → Option (Cause × ℕ)
 in_columns k [] i ws = None
 in_columns k (c ∷ cs) i ws = or_else (first (cause k c.test) i (take c.size ws)) (in_columns k cs (i + c.size) (drop c.size ws))
 
@@ -76,18 +78,18 @@ abbrev pub last_at : Sizes → ℕ
 last_at s = 8 + total (columns s)
 
 -- the first bad word of the last column
-abbrev pub in_clashes : Sizes → List ℕ → Option (ℕ × ℕ)
+abbrev pub in_clashes : Sizes → List ℕ → Option (Cause × ℕ)
 in_clashes s ws = first (clash_cause s.steps) (last_at s) (zip (take s.clashes (drop (last_at s - s.clashes) ws)) (take s.clashes (drop (last_at s) ws)))
 
 -- the length in bytes that the sizes say
 abbrev pub due : Sizes → ℕ
 due s = 8 * (last_at s + s.clashes)
 
--- number and place of the refusal of n bytes with these sizes and words, if they are refused
-unfoldable pub judged : {S : Type 0} → Kind S → ℕ → Sizes → List ℕ → Option (ℕ × ℕ)
+-- the refusal of n bytes with these sizes and words, if they are refused: its cause and place
+unfoldable pub judged : {S : Type 0} → Kind S → ℕ → Sizes → List ℕ → Option (Cause × ℕ)
 judged k n s ws =
-    cond (nat_lt n 64) (Some (1, n)) (or_else (in_sizes s) (
-    cond (n == due s) (or_else (in_columns k (columns s) 8 (drop 8 ws)) (in_clashes s ws)) (Some (3, due s))))
+    cond (nat_lt n 64) (Some (ShortBook, n)) (or_else (in_sizes s) (
+    cond (n == due s) (or_else (in_columns k (columns s) 8 (drop 8 ws)) (in_clashes s ws)) (Some (WrongLength, due s))))
 
-abbrev pub refusal : {S : Type 0} → Kind S → List ℕ → Option (ℕ × ℕ)
+abbrev pub refusal : {S : Type 0} → Kind S → List ℕ → Option (Cause × ℕ)
 refusal k bs = judged k (length bs) (sizes_of (words bs)) (words bs)

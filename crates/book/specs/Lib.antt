@@ -4,6 +4,7 @@ pub mod Entries
 pub mod Layouts
 pub mod Causes
 pub mod Form
+pub mod Places
 pub mod Rules
 pub mod Flags
 pub mod Covering

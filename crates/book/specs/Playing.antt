@@ -1,6 +1,7 @@
 -- Who plays what, by the rows of a book.
-use Rattle.std.specs.Prelude.{◌≡◌, ℕ, ◌+◌, ◌*◌, ◌<◌, Bool, false, List, length, Decides, slice_index_or}
+use Rattle.std.specs.Prelude.{◌≡◌, ℕ, ◌<◌, Bool, List, Decides}
 use mathlib.Core.List.{Memᴰ}
+use Rattle.book.specs.Flags.{flag_at}
 use Rattle.book.specs.declared.rows.Play.{Play}
 
 -- some row says that person u plays post p
@@ -11,10 +12,10 @@ Plays rows u p = (row : Play) × Memᴰ row rows × (row.person.0 ≡ u) × (row
 abbrev pub PlaysInRange : List Play → Type 0
 PlaysInRange rows = (row : Play) → Memᴰ row rows → (row.person.0 < 256) × (row.post.0 < 64)
 
--- place u * 64 + p of the table says whether person u plays post p
-abbrev pub TellsPlaying : List Play → List Bool → Type 0
-TellsPlaying rows table = (u p : ℕ) → u < 256 → p < 64 → Decides (slice_index_or table (u * 64 + p) false) (Plays rows u p)
+-- row u of the table says at column p whether person u plays post p
+abbrev pub TellsPlaying : List Play → List (List Bool) → Type 0
+TellsPlaying rows table = (u p : ℕ) → u < 256 → p < 64 → Decides (flag_at table u p) (Plays rows u p)
 
 -- the table is that of these rows; truncated, since a fact in a ghost field has one proof only
-abbrev pub PlayingExact : List Play → List Bool → Type 0
-PlayingExact rows table = PlaysInRange rows × (length table ≡ 16384) × ∥ TellsPlaying rows table ∥₁
+abbrev pub PlayingExact : List Play → List (List Bool) → Type 0
+PlayingExact rows table = PlaysInRange rows × ∥ TellsPlaying rows table ∥₁

@@ -1,8 +1,9 @@
 -- What a book says, and how it is written down.
-use Rattle.std.specs.Prelude.{ℕ, Bool, true, ◌&&◌, List, [], ◌∷◌, ◌++◌, map, length, vec_items}
+use Rattle.std.specs.Prelude.{ℕ, Bool, true, ◌&&◌, List, [], ◌∷◌, ◌++◌, map, length, None, Option, vec_items}
 use Rattle.std.specs.List.{zip, flat_map}
 use Rattle.strength.specs.Kind.{Kind}
 use Rattle.strength.specs.declared.values.Marks.{Marks}
+use Rattle.book.specs.declared.faults.Cause.{Cause}
 use Rattle.book.specs.declared.form.Sizes.{Sizes}
 use Rattle.book.specs.declared.form.Test.{Test}
 use Rattle.book.specs.declared.form.Test.TheVariants.{Below, Key, Strength}
@@ -80,13 +81,13 @@ abbrev pub written : {S : Type 0} → Kind S → Rules S → List ℕ
 written k r = spelled (words_in k r)
 
 -- what a test of numbers finds wrong; a strength that is there has a word
-abbrev pub number_test : Test → ℕ → ℕ
+abbrev pub number_test : Test → ℕ → Option Cause
 number_test (Below limit) w = number_cause limit w
 number_test (Key posts steps) w = key_cause posts steps w
-number_test Strength w = 0
+number_test Strength w = None
 
 -- no word of these columns has a cause
-abbrev pub fine : (Test → ℕ → ℕ) → List (Test × List ℕ) → Bool
+abbrev pub fine : (Test → ℕ → Option Cause) → List (Test × List ℕ) → Bool
 fine c [] = true
 fine c (x ∷ xs) = clean (c x.0) x.1 && fine c xs
 

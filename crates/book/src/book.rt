@@ -11,15 +11,16 @@ pub mod rows;
 pub mod writes;
 
 use crate::rows::Rows;
+use crate::tables::{Covering, Playing};
 
 /// Who there is, and who may do what. Its sizes are within their limits, its numbers are in range, and its
 /// tables are those of its rows.
 #[derive(Drop)]
 pub struct Book<S> {
     rows: Rows<S>,
-    covering: Vec<bool>,
-    playing: Vec<bool>,
+    covering: Box<Covering>,
+    playing: Box<Playing>,
     ghost fit: { fits {S = S} (said rows) ≡ true },
-    ghost covered: { CoveringExact rows.covers.items covering.items },
-    ghost played: { PlayingExact rows.plays.items playing.items },
+    ghost covered: { CoveringExact rows.covers.items covering.value },
+    ghost played: { PlayingExact rows.plays.items playing.value },
 }

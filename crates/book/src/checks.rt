@@ -1,4 +1,4 @@
-// The checks of words, whether they lie in a file or in rows. A refusal is a number and a place.
+// The checks of words, whether they lie in a file or in rows. A refusal is a cause and a place.
 ghost use Rattle.std.specs.Prelude.{◌≡◌, ◌+◌, ◌^◌, ◌<◌, ◌≤◌, map, length, drop};
 ghost use Rattle.std.specs.Result.{result_err};
 ghost use Rattle.std.specs.List.{zip};
@@ -6,71 +6,63 @@ ghost use Rattle.book.specs.Words.{word_of};
 ghost use Rattle.book.specs.Causes.{size_cause, cause, clash_cause, first};
 ghost use Rattle.book.specs.Form.{total, in_columns};
 
+use crate::faults::{Cause, Refusal};
 use crate::form::{Column, Limit, Test};
-use crate::words::{FileWords, Words};
+use crate::words::{Whole, WordOf};
 use strength::Strength;
 
-/// The number of a refusal, and its place.
-pub type Refusal = (u8, usize);
-
-/// What its limits find wrong with a size: the number of the refusal, 0 for none.
-fn judge_size(limit: Limit, size: u64) -> u8
+/// What its limits find wrong with a size.
+fn judge_size(limit: Limit, size: u64) -> Option<Cause>
     ensures { result ≡ size_cause (limit, size) }
 {
     if limit.least <= size && size <= limit.most {
-        0
+        None
     } else {
-        2
+        Some(Cause::SizeOutOfLimits)
     }
 }
 
 /// Whether each size is within its limits; the place is the first that is not.
-pub(crate) fn check_sizes(sizes: &[u64], limits: &[Limit]) -> Result<(), Refusal>
-    requires { length sizes.now ≡ length limits.now }
+pub(crate) fn check_sizes<const N: usize>(
+    sizes: &[u64; N],
+    limits: &[Limit; N],
+) -> Result<(), Refusal>
     ensures { result_err result ≡ first size_cause 0 (zip limits.now sizes.now) }
 {
-    for i in 0..sizes.len() {
-        let fault = judge_size(limits[i], sizes[i]);
-        if fault != 0 {
-            return Err((fault, i));
+    for (i, (limit, size)) in limits.iter().zip(sizes).enumerate() {
+        if let Some(cause) = judge_size(*limit, *size) {
+            return Err((cause, i));
         }
     }
     Ok(())
 }
 
-/// What a test finds wrong with a word, 0 for nothing.
-fn judge<S: Strength>(test: Test, word: u64) -> u8
+// Tests are data, which the definition of a book lists with its columns, so they are no closures.
+/// What a test finds wrong with a word.
+fn judge<S: Strength>(test: Test, word: u64) -> Option<Cause>
     ensures { result ≡ cause S.kind test word }
 {
     match test {
-        Test::Below(limit) => { if word < limit { 0 } else { 4 } }
-        Test::Key(posts, steps) => {
-            if word / 64 < posts && word % 64 < steps {
-                0
-            } else {
-                4
-            }
-        }
-        Test::Strength => match S::from_word(word) {
-            Some(_strength) => 0,
-            None => 5,
-        },
+        Test::Below(limit) if word < limit => None,
+        Test::Key(posts, steps) if word / 64 < posts && word % 64 < steps => None,
+        Test::Strength if S::from_word(word).is_some() => None,
+        Test::Below(_) | Test::Key(..) => Some(Cause::OutOfRange),
+        Test::Strength => Some(Cause::UnlawfulWord),
     }
 }
 
-/// Whether each word of a column passes the test; the column begins at this place.
-pub(crate) fn check_column<S: Strength, W: Words>(
-    column: W,
+/// Whether this word of each row passes the test; the column begins at this place.
+pub(crate) fn check_column<S: Strength, R: Copy, W: WordOf<R>>(
+    rows: &[R],
     place: usize,
     test: Test,
 ) -> Result<(), Refusal>
-    requires { place + length (W.listed column) < 2 ^ 64 }
-    ensures { result_err result ≡ first (cause S.kind test) place (W.listed column) }
+    requires { place + length rows.now < 2 ^ 64 }
+    ensures { result_err result ≡ first (cause S.kind test) place (map W.in_row rows.now) }
 {
-    for i in 0..column.count() {
-        let fault = judge::<S>(test, column.word(i));
-        if fault != 0 {
-            return Err((fault, place + i));
+    for (i, row) in rows.iter().enumerate() {
+        if let Some(cause) = judge::<S>(test, W::in_row(*row)) {
+            return Err((cause, place + i));
         }
     }
     Ok(())
@@ -81,11 +73,7 @@ pub(crate) fn total(columns: &[Column]) -> u64
     requires { total columns.now < 2 ^ 64 }
     ensures { result ≡ total columns.now }
 {
-    let mut words = 0;
-    for i in 0..columns.len() {
-        words += columns[i].size;
-    }
-    words
+    columns.iter().map(|column| column.size).sum()
 }
 
 /// Whether each word of each column passes its test; the first column begins at this place.
@@ -99,43 +87,40 @@ pub(crate) fn check_columns<S: Strength>(
     ensures { result_err result ≡ in_columns S.kind columns.now start (drop start (map word_of words.now)) }
 {
     let mut place = start;
-    for i in 0..columns.len() {
-        let column = columns[i];
+    for column in columns {
         let end = place + column.size as usize;
-        check_column::<S, FileWords>(FileWords(&words[place..end]), place, column.test)?;
+        check_column::<S, [u8; 8], Whole>(&words[place..end], place, column.test)?;
         place = end;
     }
     Ok(())
 }
 
-/// What is wrong with the second step of a clash, 0 for nothing.
-fn judge_clash(steps: u64, one: u64, other: u64) -> u8
+/// What is wrong with the second step of a clash.
+fn judge_clash(steps: u64, one: u64, other: u64) -> Option<Cause>
     ensures { result ≡ clash_cause steps (one, other) }
 {
     if other >= steps {
-        4
+        Some(Cause::OutOfRange)
     } else if one == other {
-        6
+        Some(Cause::SelfClash)
     } else {
-        0
+        None
     }
 }
 
 /// Whether each second step of a clash is in range and differs from the first; the second steps begin at this place.
-pub(crate) fn check_clashes<A: Words, B: Words>(
-    ones: A,
-    others: B,
+pub(crate) fn check_clashes<A: Copy, B: Copy, V: WordOf<A>, W: WordOf<B>>(
+    ones: &[A],
+    others: &[B],
     place: usize,
     steps: u64,
 ) -> Result<(), Refusal>
-    requires same { length (A.Words.listed ones) ≡ length (B.Words.listed others) }
-    requires fits { place + length (B.Words.listed others) < 2 ^ 64 }
-    ensures { result_err result ≡ first (clash_cause steps) place (zip (A.Words.listed ones) (B.Words.listed others)) }
+    requires { place + length others.now < 2 ^ 64 }
+    ensures { result_err result ≡ first (clash_cause steps) place (zip (map V.in_row ones.now) (map W.in_row others.now)) }
 {
-    for i in 0..others.count() {
-        let fault = judge_clash(steps, ones.word(i), others.word(i));
-        if fault != 0 {
-            return Err((fault, place + i));
+    for (i, (one, other)) in ones.iter().zip(others).enumerate() {
+        if let Some(cause) = judge_clash(steps, V::in_row(*one), W::in_row(*other)) {
+            return Err((cause, place + i));
         }
     }
     Ok(())

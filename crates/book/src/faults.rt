@@ -1,11 +1,42 @@
 // Why there is no book.
 ghost use Rattle.std.specs.Prelude.{◌≡◌};
+ghost use Rattle.book.specs.Causes.{number};
 ghost use Rattle.book.specs.declared.faults.BookFault.TheVariants.{Memory, Refused};
 
-use crate::checks::Refusal;
 use std::alloc::AllocError;
 
-#[derive(Clone, Copy)]
+/// What is wrong with a book, or with a buffer for one.
+#[derive(Clone, Copy, Debug, PartialEq, Eq)]
+pub enum Cause {
+    /// The bytes are fewer than the sizes take. The place is their number.
+    ShortBook = 1,
+    /// A size is outside its limits. The place is that of the size.
+    SizeOutOfLimits = 2,
+    /// The length is not what the sizes say. The place is the length due in bytes.
+    WrongLength = 3,
+    /// A number is out of range. The place is that of the word.
+    OutOfRange = 4,
+    /// A word is that of no strength. The place is that of the word.
+    UnlawfulWord = 5,
+    /// A step clashes with itself. The place is that of the second step.
+    SelfClash = 6,
+    /// A buffer has no room for the book. The place is the length due in bytes.
+    ShortBuffer = 8,
+}
+
+impl Cause {
+    /// The number that a panel is told.
+    pub fn number(self) -> u8
+        ensures { result ≡ number self }
+    {
+        self as u8
+    }
+}
+
+/// A cause, and the place that it concerns.
+pub type Refusal = (Cause, usize);
+
+#[derive(Clone, Copy, Debug, PartialEq, Eq)]
 pub enum BookFault {
     /// The book is not sound.
     Refused(Refusal),

@@ -37,3 +37,13 @@ pub struct Sizes {
     pub bars: u64,
     pub clashes: u64,
 }
+
+/// Where the tables of a book begin, counted in words.
+#[derive(Clone, Copy, Debug, PartialEq, Eq)]
+pub struct Places {
+    pub plays: usize,
+    pub covers: usize,
+    pub holds: usize,
+    pub bars: usize,
+    pub clashes: usize,
+}

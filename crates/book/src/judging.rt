@@ -1,52 +1,36 @@
 // Whether bytes are a sound book.
-ghost use Rattle.std.specs.Prelude.{◌≡◌, ◌≤◌, length, IfOk};
+ghost use Rattle.std.specs.Prelude.{◌≡◌, length, IfOk};
 ghost use Rattle.std.specs.Result.{result_err};
 ghost use Rattle.book.specs.Words.{words};
-ghost use Rattle.book.specs.Form.{Small, due, in_sizes, last_at, refusal, sizes_of};
+ghost use Rattle.book.specs.Form.{due, refusal, sizes_of};
 
-use crate::checks::{Refusal, check_clashes, check_columns, check_sizes, total};
+use crate::checks::{check_clashes, check_columns};
+use crate::faults::{Cause, Refusal};
 use crate::form::Sizes;
-use crate::sizes::{SIZES, columns_of, size_limits};
-use crate::words::FileWords;
+use crate::plan::Plan;
+use crate::sizes::{SIZES, columns_of};
+use crate::words::Whole;
 use strength::Strength;
 
-/// The place of the last column of a book with these sizes.
-pub(crate) fn last_column(sizes: Sizes) -> usize
-    requires { Small sizes }
-    ensures value { result ≡ last_at sizes }
-    ensures bound { result ≤ 4872 }
-{
-    SIZES + total(&columns_of(sizes)) as usize
-}
-
-/// The place of the last column of a book with these sizes, or the refusal of a size.
-pub(crate) fn check_form(sizes: Sizes) -> Result<usize, Refusal>
-    ensures fault { result_err result ≡ in_sizes sizes }
-    ensures place { IfOk result (λ p. (p ≡ last_at sizes) × Small sizes × (p ≤ 4872)) }
-{
-    check_sizes(&sizes.listed(), &size_limits())?;
-    Ok(last_column(sizes))
-}
-
-/// The sizes of a sound book, or the first refusal.
-pub(crate) fn check<S: Strength>(bytes: &[u8]) -> Result<Sizes, Refusal>
+/// The plan of a sound book, or the first refusal.
+pub(crate) fn check<S: Strength>(bytes: &[u8]) -> Result<Plan, Refusal>
     ensures fault { result_err result ≡ refusal S.kind bytes.now }
-    ensures sizes { IfOk result (λ s. (s ≡ sizes_of (words bytes.now)) × Small s × (length bytes.now ≡ due s)) }
+    ensures plan { IfOk result (λ p. (p.sizes ≡ sizes_of (words bytes.now)) × (length bytes.now ≡ due p.sizes)) }
 {
     if bytes.len() < 8 * SIZES {
-        return Err((1, bytes.len()));
+        return Err((Cause::ShortBook, bytes.len()));
     }
     let (words, _rest) = bytes.as_chunks::<8>();
-    let sizes = Sizes::read(words);
-    let last = check_form(sizes)?;
-    let clashes = sizes.clashes as usize;
-    let due = 8 * (last + clashes);
-    if bytes.len() != due {
-        return Err((3, due));
+    let plan = Sizes::read(words).plan()?;
+    if bytes.len() != plan.due() {
+        return Err((Cause::WrongLength, plan.due()));
     }
+    let sizes = plan.sizes;
+    let last = plan.last();
+    let clashes = sizes.clashes as usize;
     check_columns::<S>(words, SIZES, &columns_of(sizes))?;
-    let ones = FileWords(&words[last - clashes..last]);
-    let others = FileWords(&words[last..last + clashes]);
-    check_clashes(ones, others, last, sizes.steps)?;
-    Ok(sizes)
+    let ones = &words[last - clashes..last];
+    let others = &words[last..last + clashes];
+    check_clashes::<[u8; 8], [u8; 8], Whole, Whole>(ones, others, last, sizes.steps)?;
+    Ok(plan)
 }

@@ -28,6 +28,7 @@ pub trait Row: Copy {
     ghost keeps_words: { KeepsWords layout };
 }
 
+// Each row names its own fields, so that no number is taken for one of another meaning: the impls below are alike in shape alone.
 impl Row for Play {
     ghost layout = { play_layout };
 

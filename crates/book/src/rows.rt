@@ -16,7 +16,7 @@ pub struct Post(pub u64);
 pub struct Step(pub u64);
 
 /// One batch of olives, by number.
-#[derive(Clone, Copy, Debug, PartialEq, Eq)]
+#[derive(Clone, Copy, Debug, Default, PartialEq, Eq)]
 pub struct Lot(pub u64);
 
 /// A person plays a post.

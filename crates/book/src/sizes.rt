@@ -4,7 +4,7 @@ ghost use Rattle.book.specs.Words.{word_of};
 ghost use Rattle.book.specs.Form.{columns, limits, listed_sizes, sizes_of};
 
 use crate::form::{Column, Limit, Sizes, Test};
-use crate::words::{FileWords, Words};
+use crate::words::{Whole, WordOf};
 
 /// How many sizes a book begins with.
 pub(crate) const SIZES: usize = 8;
@@ -114,16 +114,15 @@ impl Sizes {
         requires { 8 ≤ length (map word_of words.now) }
         ensures { result ≡ sizes_of (map word_of words.now) }
     {
-        let words = FileWords(words);
         Sizes {
-            people: words.word(0),
-            posts: words.word(1),
-            steps: words.word(2),
-            plays: words.word(3),
-            covers: words.word(4),
-            holds: words.word(5),
-            bars: words.word(6),
-            clashes: words.word(7),
+            people: Whole::in_row(words[0]),
+            posts: Whole::in_row(words[1]),
+            steps: Whole::in_row(words[2]),
+            plays: Whole::in_row(words[3]),
+            covers: Whole::in_row(words[4]),
+            holds: Whole::in_row(words[5]),
+            bars: Whole::in_row(words[6]),
+            clashes: Whole::in_row(words[7]),
         }
     }
 

@@ -1,19 +1,19 @@
-// What covers what and who plays what, as tables of flags with 64 columns.
-ghost use Rattle.std.specs.Prelude.{◌≡◌, ◌+◌, ◌*◌, ◌<◌};
+// What covers what and who plays what, as tables of flags. They differ in how they are filled, and in what is so out of range.
+ghost use Rattle.std.specs.Prelude.{◌≡◌, ℕ, ◌<◌, true, slice_set};
+ghost use Rattle.book.specs.Flags.{Raised};
 
 mod covering;
 mod playing;
 
-pub(crate) use covering::{covering_table, covers};
-pub(crate) use playing::{playing_table, plays};
+pub(crate) use covering::{Covering, covering_table, covers};
+pub(crate) use playing::{Playing, playing_table, plays};
 
-// A book has at most this many steps, and as many posts.
-const COLUMNS: usize = 64;
-
-/// The place of a flag by its row and column.
-fn place(row: usize, column: usize) -> usize
-    requires { (row < 256) × (column < 64) }
-    ensures { result ≡ row * 64 + column }
+/// Raises a flag of a row.
+fn raise<const N: usize>(row: &mut [bool; N], column: usize)
+    requires { column < N }
+    ensures new { row.new ≡ slice_set row.old column true }
+    ensures raised { Raised row.new column }
+    ensures grows { (b : ℕ) → Raised row.old b → Raised row.new b }
 {
-    row * COLUMNS + column
+    row[column] = true;
 }

@@ -1,2 +1,1 @@
-mod Raising
 mod Telling

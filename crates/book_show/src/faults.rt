@@ -2,7 +2,7 @@
 ghost use Rattle.std.specs.Prelude.{◌≡◌, ◌≤◌, MatchOption};
 ghost use Rattle.book_show.specs.Limits.{limit_at};
 
-use book::Refusal;
+use book::{Cause, Refusal};
 use std::fmt;
 
 /// A refusal as a sentence.
@@ -13,6 +13,7 @@ pub struct Refused(pub Refusal);
 fn size_at(place: usize) -> Option<(&'static str, u64, u64)>
     ensures { MatchOption result (8 ≤ place) (λ size. (size.1 ≡ (limit_at place).least) × (size.2 ≡ (limit_at place).most)) }
 {
+    // A match, since a table of constants would say no more and have to be indexed.
     match place {
         0 => Some(("people", 1, 256)),
         1 => Some(("posts", 1, 64)),
@@ -44,22 +45,24 @@ impl fmt::Display for BadSize {
 
 impl fmt::Display for Refused {
     fn fmt<W: fmt::Write>(&self, f: &mut fmt::Formatter<W>) -> fmt::Result {
-        let (number, place) = self.0;
-        write!(f, "refused with {number} at {place}: ")?;
-        match number {
-            1 => write!(
+        let (cause, place) = self.0;
+        write!(f, "refused with {} at {place}: ", cause.number())?;
+        match cause {
+            Cause::ShortBook => write!(
                 f,
                 "the book is shorter than its eight sizes; it has {place} bytes"
             ),
-            2 => write!(f, "{}", BadSize(place)),
-            3 => write!(
+            Cause::SizeOutOfLimits => write!(f, "{}", BadSize(place)),
+            Cause::WrongLength => write!(
                 f,
                 "the length is not what the sizes say; {place} bytes are due"
             ),
-            4 => write!(f, "word {place} is a number out of range"),
-            5 => write!(f, "word {place} is the word of no strength of this line"),
-            6 => write!(f, "word {place} makes a step clash with itself"),
-            _ => write!(f, "the book is not sound"),
+            Cause::OutOfRange => write!(f, "word {place} is a number out of range"),
+            Cause::UnlawfulWord => {
+                write!(f, "word {place} is the word of no strength of this line")
+            }
+            Cause::SelfClash => write!(f, "word {place} makes a step clash with itself"),
+            Cause::ShortBuffer => write!(f, "the book is not sound"),
         }
     }
 }

@@ -7,12 +7,13 @@ use crate::failure::Failure;
 use std::env;
 
 /// The line whose book it is, which says what its strengths are.
-#[derive(Clone, Copy)]
+#[derive(Clone, Copy, Debug, PartialEq, Eq)]
 pub enum Kind {
     Press,
     Malaxer,
 }
 
+// A FromStr would need an error of its own beside Failure, which says it all.
 /// The kind that has this name, if there is one.
 fn kind_of(word: &str) -> Option<Kind>
     ensures { MatchOption result ((k : Kind) → word.now ≢ name k) (λ k. word.now ≡ name k) }
@@ -31,8 +32,6 @@ pub fn arguments(rt: &HostRuntime) -> Result<(String, Kind), Failure> {
     let (Some(path), Some(word), None) = (words.next(), words.next(), words.next()) else {
         return Err(Failure::Usage);
     };
-    match kind_of(word.as_str()) {
-        Some(kind) => Ok((path, kind)),
-        None => Err(Failure::Usage),
-    }
+    let kind = kind_of(word.as_str()).ok_or(Failure::Usage)?;
+    Ok((path, kind))
 }

@@ -5,7 +5,7 @@ use crate::numbers::Numbers;
 use std::fmt;
 
 /// The words for none, one and several of a thing.
-#[derive(Clone, Copy)]
+#[derive(Clone, Copy, Debug, PartialEq, Eq)]
 pub struct Noun {
     none: &'static str,
     one: &'static str,

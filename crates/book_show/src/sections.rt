@@ -36,43 +36,29 @@ struct Holdings<'a, S> {
 
 impl<S: Describe> fmt::Display for Holdings<'_, S> {
     fn fmt<W: fmt::Write>(&self, f: &mut fmt::Formatter<W>) -> fmt::Result {
-        let post = self.post.0;
-        let mut any = false;
-        for entry in self.holds {
-            if entry.key.post().0 == post {
-                let lead = Lead { post, first: !any };
-                writeln!(
-                    f,
-                    "{lead} step {} at {}",
-                    entry.key.step().0,
-                    Described(entry.strength)
-                )?;
-                any = true;
-            }
+        let post = self.post;
+        let mut rights = self.holds.iter().filter(|entry| entry.key.post() == post);
+        let Some(first) = rights.next() else {
+            return writeln!(f, "  {}: holds nothing", post.0);
+        };
+        writeln!(f, "  {}: holds {}", post.0, Held(*first))?;
+        // The others stand below the first one.
+        let margin = if post.0 < 10 { "     " } else { "      " };
+        for entry in rights {
+            writeln!(f, "{margin}and {}", Held(*entry))?;
         }
-        if any {
-            Ok(())
-        } else {
-            writeln!(f, "  {post}: holds nothing")
-        }
+        Ok(())
     }
 }
 
-/// What a right begins with: the first of a post names it, the others stand below.
+/// A right in words.
 #[derive(Drop)]
-struct Lead {
-    post: u64,
-    first: bool,
-}
+struct Held<S>(Entry<S>);
 
-impl fmt::Display for Lead {
+impl<S: Describe> fmt::Display for Held<S> {
     fn fmt<W: fmt::Write>(&self, f: &mut fmt::Formatter<W>) -> fmt::Result {
-        let post = self.post;
-        if self.first {
-            return write!(f, "  {post}: holds");
-        }
-        let margin = if post < 10 { "     " } else { "      " };
-        write!(f, "{margin}and")
+        let Entry { key, strength } = self.0;
+        write!(f, "step {} at {}", key.step().0, Described(strength))
     }
 }
 

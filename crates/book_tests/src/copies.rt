@@ -1,7 +1,7 @@
 // Books written, and read and written back.
 
 use crate::support::{EXAMPLE, LENGTH, bytes, made, refusal};
-use book::{Book, read, reread, write};
+use book::{Book, Cause, read, reread, write};
 use std::alloc::Global;
 use std::process::Abort;
 use std::test::Fail;
@@ -19,9 +19,7 @@ fn check_copy(rt: &impl Abort, copy: &[u8], bytes: &[u8]) {
 
 /// Checks that nothing was written.
 fn check_blank(rt: &impl Abort, bytes: &[u8]) {
-    for byte in bytes {
-        assert_eq!(rt; *byte, BLANK);
-    }
+    assert!(rt; bytes.iter().all(|byte| *byte == BLANK));
 }
 
 fn example(heap: Global, bytes: &[u8]) -> Result<Book<Reach>, Fail> {
@@ -48,7 +46,7 @@ fn not_written_to_short_buffers(rt: HostRuntime) -> Result<(), Fail> {
     let book = example(heap, &bytes)?;
     for length in [0, 64, 200, 207] {
         let mut copy = vec![in heap; BLANK; length]?;
-        assert_eq!(rt; write(&book, &mut copy), Err((8, LENGTH)));
+        assert_eq!(rt; write(&book, &mut copy), Err((Cause::ShortBuffer, LENGTH)));
         check_blank(&rt, &copy);
     }
     Ok(())
@@ -73,16 +71,16 @@ fn not_reread(rt: HostRuntime) -> Result<(), Fail> {
     let heap = rt.alloc();
     let bytes = bytes(heap, &EXAMPLE)?;
     let cases = [
-        (208, 0, 8, LENGTH),
-        (208, 207, 8, LENGTH),
-        (207, 208, 3, LENGTH),
-        (63, 0, 1, 63),
+        (208, 0, (8, LENGTH)),
+        (208, 207, (8, LENGTH)),
+        (207, 208, (3, LENGTH)),
+        (63, 0, (1, 63)),
     ];
-    for (end, length, number, place) in cases {
+    for (end, length, expected) in cases {
         assert!(rt; end <= bytes.len());
         let mut copy = vec![in heap; BLANK; length]?;
         let answer = refusal(reread::<Reach>(heap, &bytes[0..end], &mut copy))?;
-        assert_eq!(rt; answer, Some((number, place)));
+        assert_eq!(rt; answer, Some(expected));
         check_blank(&rt, &copy);
     }
     Ok(())

@@ -1,19 +1,18 @@
 // Damaged books: each is the example with a few words or bytes changed, and is refused at the first fault.
 
-use crate::support::{EXAMPLE, LENGTH, bytes, refusal, refusal_of};
+use crate::support::{EXAMPLE, LENGTH, Told, bytes, refusal, refusal_of};
 use book::read;
 use std::alloc::{AllocError, Global};
 use std::process::Abort;
 use std::test::Fail;
 use strength::Reach;
 
-/// Checks that the example with words changed to these is refused with this number and place.
+/// Checks that the example with words changed to these is refused so.
 fn check_damage(
     rt: &impl Abort,
     heap: Global,
     changes: &[(usize, u64)],
-    number: u8,
-    place: usize,
+    expected: Told,
 ) -> Result<(), Fail> {
     let mut words = Vec::from_slice(heap, &EXAMPLE)?;
     for (at, word) in changes {
@@ -22,7 +21,7 @@ fn check_damage(
     }
     assert_eq!(rt;
         refusal_of::<Reach>(heap, &words)?,
-        Some((number, place)),
+        Some(expected),
         "{changes:?}"
     );
     Ok(())
@@ -45,9 +44,9 @@ fn sizes_out_of_limits(rt: HostRuntime) -> Result<(), Fail> {
         (7, 257),
     ];
     for (at, size) in cases {
-        check_damage(&rt, rt.alloc(), &[(at, size)], 2, at)?;
+        check_damage(&rt, rt.alloc(), &[(at, size)], (2, at))?;
     }
-    check_damage(&rt, rt.alloc(), &[(7, 257), (1, 65)], 2, 1)
+    check_damage(&rt, rt.alloc(), &[(7, 257), (1, 65)], (2, 1))
 }
 
 /// The length due of a size that is within its limits, and not the one that the example has.
@@ -64,7 +63,7 @@ fn sizes_of_another_length(rt: HostRuntime) -> Result<(), Fail> {
         (7, 256, 4288),
     ];
     for (at, size, due) in cases {
-        check_damage(&rt, rt.alloc(), &[(at, size)], 3, due)?;
+        check_damage(&rt, rt.alloc(), &[(at, size)], (3, due))?;
     }
     Ok(())
 }
@@ -75,18 +74,18 @@ fn lengths(rt: HostRuntime) -> Result<(), Fail> {
     let mut longer = bytes(rt.alloc(), &EXAMPLE)?;
     longer.extend_from_slice(&[0; 8])?;
     let cases = [
-        (0, 1, 0),
-        (63, 1, 63),
-        (64, 3, LENGTH),
-        (200, 3, LENGTH),
-        (207, 3, LENGTH),
-        (209, 3, LENGTH),
-        (216, 3, LENGTH),
+        (0, (1, 0)),
+        (63, (1, 63)),
+        (64, (3, LENGTH)),
+        (200, (3, LENGTH)),
+        (207, (3, LENGTH)),
+        (209, (3, LENGTH)),
+        (216, (3, LENGTH)),
     ];
-    for (length, number, place) in cases {
+    for (length, expected) in cases {
         assert!(rt; length <= longer.len());
         let answer = refusal(read::<Reach>(rt.alloc(), &longer[0..length]))?;
-        assert_eq!(rt; answer, Some((number, place)), "{length} bytes");
+        assert_eq!(rt; answer, Some(expected), "{length} bytes");
     }
     Ok(())
 }
@@ -114,7 +113,7 @@ fn numbers_out_of_range(rt: HostRuntime) -> Result<(), Fail> {
         (25, 18_446_744_073_709_551_615),
     ];
     for (at, word) in cases {
-        check_damage(&rt, rt.alloc(), &[(at, word)], 4, at)?;
+        check_damage(&rt, rt.alloc(), &[(at, word)], (4, at))?;
     }
     Ok(())
 }
@@ -122,23 +121,23 @@ fn numbers_out_of_range(rt: HostRuntime) -> Result<(), Fail> {
 /// Fewer posts or steps than the rows name.
 #[test]
 fn numbers_out_of_smaller_ranges(rt: HostRuntime) -> Result<(), Fail> {
-    check_damage(&rt, rt.alloc(), &[(1, 1)], 4, 15)?;
-    check_damage(&rt, rt.alloc(), &[(2, 2)], 4, 19)?;
-    check_damage(&rt, rt.alloc(), &[(2, 1)], 4, 18)
+    check_damage(&rt, rt.alloc(), &[(1, 1)], (4, 15))?;
+    check_damage(&rt, rt.alloc(), &[(2, 2)], (4, 19))?;
+    check_damage(&rt, rt.alloc(), &[(2, 1)], (4, 18))
 }
 
 #[test]
 fn strengths_and_clashes(rt: HostRuntime) -> Result<(), Fail> {
     let cases = [
-        (21, 5, 5, 21),
-        (21, 4_294_967_296, 5, 21),
-        (23, 5, 5, 23),
-        (23, 4_294_967_296, 5, 23),
-        (24, 2, 6, 25),
-        (25, 1, 6, 25),
+        (21, 5, (5, 21)),
+        (21, 4_294_967_296, (5, 21)),
+        (23, 5, (5, 23)),
+        (23, 4_294_967_296, (5, 23)),
+        (24, 2, (6, 25)),
+        (25, 1, (6, 25)),
     ];
-    for (at, word, number, place) in cases {
-        check_damage(&rt, rt.alloc(), &[(at, word)], number, place)?;
+    for (at, word, expected) in cases {
+        check_damage(&rt, rt.alloc(), &[(at, word)], expected)?;
     }
     Ok(())
 }
@@ -147,23 +146,17 @@ fn strengths_and_clashes(rt: HostRuntime) -> Result<(), Fail> {
 #[test]
 fn first_of_two_faults(rt: HostRuntime) -> Result<(), Fail> {
     let cases = [
-        (8, 16_777_216, 25, 1, 4, 8),
-        (25, 3, 12, 4, 4, 12),
-        (14, 2, 13, 4, 4, 13),
-        (19, 3, 20, 128, 4, 19),
-        (20, 3, 21, 5, 4, 20),
-        (22, 130, 21, 5, 5, 21),
-        (24, 3, 23, 5, 5, 23),
-        (24, 3, 25, 3, 4, 24),
+        ([(8, 16_777_216), (25, 1)], (4, 8)),
+        ([(25, 3), (12, 4)], (4, 12)),
+        ([(14, 2), (13, 4)], (4, 13)),
+        ([(19, 3), (20, 128)], (4, 19)),
+        ([(20, 3), (21, 5)], (4, 20)),
+        ([(22, 130), (21, 5)], (5, 21)),
+        ([(24, 3), (23, 5)], (5, 23)),
+        ([(24, 3), (25, 3)], (4, 24)),
     ];
-    for (at, word, next_at, next_word, number, place) in cases {
-        check_damage(
-            &rt,
-            rt.alloc(),
-            &[(at, word), (next_at, next_word)],
-            number,
-            place,
-        )?;
+    for (changes, expected) in cases {
+        check_damage(&rt, rt.alloc(), &changes, expected)?;
     }
     Ok(())
 }

@@ -6,9 +6,7 @@ use std::test::Fail;
 #[test]
 fn read_from_words(rt: HostRuntime) -> Result<(), Fail> {
     for (word, post, step) in [(0, 0, 0), (66, 1, 2), (128, 2, 0), (4095, 63, 63)] {
-        let Some(key) = Key::from_word(word) else {
-            return Err(Fail::new(format_args!("no key {word}")));
-        };
+        let key = Key::from_word(word).ok_or_else(|| Fail::new(format_args!("no key {word}")))?;
         assert_eq!(rt;
             (key.post().0, key.step().0, key.word()),
             (post, step, word)

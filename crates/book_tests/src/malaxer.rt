@@ -81,15 +81,9 @@ fn unlawful_pairs(rt: HostRuntime) -> Result<(), Fail> {
 }
 
 fn entry(count: u8, lowest: u16, highest: u16) -> Result<Entry<Pair<Reach, Band>>, Fail> {
-    let Some(key) = Key::new(Post(0), Step(0)) else {
-        return Err(Fail::new("no key"));
-    };
-    let Some(reach) = Reach::new(Count(count), Marks(0)) else {
-        return Err(Fail::new("no reach"));
-    };
-    let Some(band) = Band::new(Tenths(lowest), Tenths(highest)) else {
-        return Err(Fail::new("no band"));
-    };
+    let key = Key::new(Post(0), Step(0)).ok_or_else(|| Fail::new("no key"))?;
+    let reach = Reach::new(Count(count), Marks(0)).ok_or_else(|| Fail::new("no reach"))?;
+    let band = Band::new(Tenths(lowest), Tenths(highest)).ok_or_else(|| Fail::new("no band"))?;
     Ok(Entry {
         key,
         strength: Pair::new(reach, band),

@@ -1,6 +1,6 @@
 // Books made of rows, which are refused as the file is that they would be written to.
 
-use crate::support::{EXAMPLE, LENGTH, bytes, made, refusal};
+use crate::support::{EXAMPLE, LENGTH, Told, bytes, made, refusal};
 use book::{Book, Clash, Cover, Entry, Key, Person, Play, Post, Rows, Step, write};
 use std::alloc::Global;
 use std::process::Abort;
@@ -30,12 +30,8 @@ fn clash(one: u64, other: u64) -> Clash {
 
 /// An entry without a mask.
 fn entry(post: u64, step: u64, count: u8) -> Result<Entry<Reach>, Fail> {
-    let Some(key) = Key::new(Post(post), Step(step)) else {
-        return Err(Fail::new("no key"));
-    };
-    let Some(strength) = Reach::new(Count(count), Marks(0)) else {
-        return Err(Fail::new("no reach"));
-    };
+    let key = Key::new(Post(post), Step(step)).ok_or_else(|| Fail::new("no key"))?;
+    let strength = Reach::new(Count(count), Marks(0)).ok_or_else(|| Fail::new("no reach"))?;
     Ok(Entry { key, strength })
 }
 
@@ -59,11 +55,10 @@ fn check_refused(
     rt: &impl Abort,
     heap: Global,
     rows: Rows<Reach>,
-    number: u8,
-    place: usize,
+    expected: Told,
 ) -> Result<(), Fail> {
     let answer = refusal(Book::from_rows(heap, rows))?;
-    assert_eq!(rt; answer, Some((number, place)));
+    assert_eq!(rt; answer, Some(expected));
     Ok(())
 }
 
@@ -86,13 +81,13 @@ fn sizes_refused(rt: HostRuntime) -> Result<(), Fail> {
     let mut rows = example_rows(heap)?;
     rows.posts = 65;
     rows.plays.push(play(4, 0))?;
-    check_refused(&rt, heap, rows, 2, 1)?;
+    check_refused(&rt, heap, rows, (2, 1))?;
     let mut rows = example_rows(heap)?;
     rows.steps = 0;
-    check_refused(&rt, heap, rows, 2, 2)?;
+    check_refused(&rt, heap, rows, (2, 2))?;
     let mut rows = example_rows(heap)?;
     rows.marks.clear();
-    check_refused(&rt, heap, rows, 2, 0)
+    check_refused(&rt, heap, rows, (2, 0))
 }
 
 /// A third play: the persons are words 12 to 14, and the posts 15 to 17.
@@ -101,7 +96,7 @@ fn plays_refused(rt: HostRuntime) -> Result<(), Fail> {
     for (person, post, place) in [(4, 0, 14), (0, 2, 17), (4, 2, 14)] {
         let mut rows = example_rows(rt.alloc())?;
         rows.plays.push(play(person, post))?;
-        check_refused(&rt, rt.alloc(), rows, 4, place)?;
+        check_refused(&rt, rt.alloc(), rows, (4, place))?;
     }
     Ok(())
 }
@@ -112,7 +107,7 @@ fn covers_refused(rt: HostRuntime) -> Result<(), Fail> {
     for (stronger, weaker, place) in [(3, 0, 18), (0, 3, 21)] {
         let mut rows = example_rows(rt.alloc())?;
         rows.covers.push(cover(stronger, weaker))?;
-        check_refused(&rt, rt.alloc(), rows, 4, place)?;
+        check_refused(&rt, rt.alloc(), rows, (4, place))?;
     }
     Ok(())
 }
@@ -123,10 +118,10 @@ fn keys_refused(rt: HostRuntime) -> Result<(), Fail> {
     for (post, step) in [(2, 0), (0, 3), (63, 63)] {
         let mut rows = example_rows(rt.alloc())?;
         rows.holds.push(entry(post, step, 0)?)?;
-        check_refused(&rt, rt.alloc(), rows, 4, 21)?;
+        check_refused(&rt, rt.alloc(), rows, (4, 21))?;
         let mut rows = example_rows(rt.alloc())?;
         rows.bars.push(entry(post, step, 0)?)?;
-        check_refused(&rt, rt.alloc(), rows, 4, 23)?;
+        check_refused(&rt, rt.alloc(), rows, (4, 23))?;
     }
     Ok(())
 }
@@ -134,15 +129,15 @@ fn keys_refused(rt: HostRuntime) -> Result<(), Fail> {
 /// A second clash: the first steps are words 24 and 25, and the second ones 26 and 27.
 #[test]
 fn clashes_refused(rt: HostRuntime) -> Result<(), Fail> {
-    for (one, other, number, place) in [
-        (3, 0, 4, 25),
-        (0, 3, 4, 27),
-        (0, 0, 6, 27),
-        (3, 3, 4, 25),
+    for (one, other, expected) in [
+        (3, 0, (4, 25)),
+        (0, 3, (4, 27)),
+        (0, 0, (6, 27)),
+        (3, 3, (4, 25)),
     ] {
         let mut rows = example_rows(rt.alloc())?;
         rows.clashes.push(clash(one, other))?;
-        check_refused(&rt, rt.alloc(), rows, number, place)?;
+        check_refused(&rt, rt.alloc(), rows, expected)?;
     }
     Ok(())
 }
@@ -153,5 +148,5 @@ fn marks_refused(rt: HostRuntime) -> Result<(), Fail> {
     let mut rows = example_rows(rt.alloc())?;
     rows.marks.push(Marks(16_777_216))?;
     rows.clashes.push(clash(1, 1))?;
-    check_refused(&rt, rt.alloc(), rows, 4, 12)
+    check_refused(&rt, rt.alloc(), rows, (4, 12))
 }

@@ -1,6 +1,6 @@
 // The book that most tests begin with, and what they ask of bytes.
 
-use book::{Book, BookFault, Refusal, read};
+use book::{Book, BookFault, read};
 use std::alloc::{AllocError, Global};
 use std::test::Fail;
 use strength::Strength;
@@ -16,6 +16,7 @@ use strength::Strength;
 /// | 20, 21 | key and strength of the hold |
 /// | 22, 23 | key and strength of the bar |
 /// | 24, 25 | steps of the clash |
+// Each crate of tests has an example of its own, and what makes bytes of it.
 pub(crate) const EXAMPLE: [u64; 26] = [
     4, 2, 3, 2, 2, 1, 1, 1, 1, 1, 1, 0, 0, 3, 0, 1, 0, 0, 1, 2, 0, 33_554_432, 66, 16_777_216, 1, 2,
 ];
@@ -36,29 +37,27 @@ pub(crate) fn bytes(heap: Global, words: &[u64]) -> Result<Vec<u8>, AllocError> 
 pub(crate) fn made<S: Strength>(book: Result<Book<S>, BookFault>) -> Result<Book<S>, Fail> {
     match book {
         Ok(book) => Ok(book),
-        Err(BookFault::Refused((number, place))) => {
-            Err(Fail::new(format_args!("refused: {number} at {place}")))
+        Err(BookFault::Refused((cause, place))) => {
+            Err(Fail::new(format_args!("refused: {cause:?} at {place}")))
         }
         Err(BookFault::Memory) => Err(Fail::new("no memory")),
     }
 }
 
+/// The number and the place by which a panel is told of a refusal.
+pub(crate) type Told = (u8, usize);
+
 /// The refusal of a book, if it is refused.
-pub(crate) fn refusal<S: Strength>(
-    book: Result<Book<S>, BookFault>,
-) -> Result<Option<Refusal>, Fail> {
+pub(crate) fn refusal<S: Strength>(book: Result<Book<S>, BookFault>) -> Result<Option<Told>, Fail> {
     match book {
         Ok(_book) => Ok(None),
-        Err(BookFault::Refused(refusal)) => Ok(Some(refusal)),
+        Err(BookFault::Refused((cause, place))) => Ok(Some((cause.number(), place))),
         Err(BookFault::Memory) => Err(Fail::new("no memory")),
     }
 }
 
 /// How the book of these words is refused, if it is.
-pub(crate) fn refusal_of<S: Strength>(
-    heap: Global,
-    words: &[u64],
-) -> Result<Option<Refusal>, Fail> {
+pub(crate) fn refusal_of<S: Strength>(heap: Global, words: &[u64]) -> Result<Option<Told>, Fail> {
     let bytes = bytes(heap, words)?;
     refusal(read::<S>(heap, &bytes))
 }

@@ -1,6 +1,6 @@
 -- Flags that are set one after another, and the queue of their places.
-use Rattle.std.proofs.Common.{◌≡◌, ℕ, zero, suc, ◌+◌, ◌<◌, ◌≤◌, Bool, true, false, ◌≢◌, ◌⊎◌, List, [], ◌∷◌, length, get_or, set, replicate, sym, refl, ap, ◌∙◌, subst, inl, inr, arith, below_more}
-use Rattle.std.proofs.lemmas.List.{get_or-set_same, get_or-set_other, get_or-replicate, get_or_past, length-replicate, length-set}
+use Rattle.std.proofs.Common.{◌≡◌, ℕ, zero, suc, ◌+◌, ◌<◌, ◌≤◌, Bool, true, false, ◌⊎◌, List, [], ◌∷◌, ◌++◌, length, get_or, set, replicate, sym, refl, ap, ◌∙◌, subst, inl, inr, arith, below_more}
+use Rattle.std.proofs.lemmas.List.{length_push, get_or_push, get_or_append_left, get_or-set_same, get_or-set_other, get_or-replicate, get_or_past, length-replicate, length-set}
 use Rattle.std.proofs.lemmas.Bool.{both_ways, cases_eq, cases_lt}
 use Rattle.delegation.specs.Walks.{Set, unset, Queued, Longer}
 
@@ -33,46 +33,40 @@ unset-none : (n : ℕ) → unset (replicate n false) ≡ n
 unset-none zero = refl
 unset-none (suc n) = ap suc (unset-none n)
 
-pub queued_none : (n m : ℕ) (queue : List ℕ) → length (replicate m false) ≡ m → Queued n (replicate m false) queue 0
-queued_none n m queue long = record {
-  each_once = omega (arith, unset-none m, long);
+pub queued_none : (n m : ℕ) → Queued n (replicate m false) []
+queued_none n m = record {
+  each_once = omega (arith, unset-none m, length-replicate m false);
   flagged = λ p lt. absurd (omega arith);
   queued = λ i lt h. absurd (none-set m i h);
 }
 
-pub longer_none : (count : ℕ) (queue : List ℕ) → Longer count queue count queue
-longer_none count queue = record { no_fewer = omega arith; same = λ p lt. refl }
-
-module _ (n : ℕ) (flags : List Bool) (queue : List ℕ) (count : ℕ) (q : Queued n flags queue count) where
-  pub queue_within : count ≤ length flags
-  queue_within = omega (arith, q.each_once)
-
-  module _ (i : ℕ) (lt : i < n) (room : n ≤ length flags) (fits : length flags ≤ length queue) (clear : get_or flags i false ≡ false) where
-    pub queue_room : count < length queue
+module _ (n : ℕ) (flags : List Bool) (queue : List ℕ) (q : Queued n flags queue) where
+  module _ (i : ℕ) (lt : i < n) (room : n ≤ length flags) (clear : get_or flags i false ≡ false) where
+    pub queue_room : length queue < length flags
     queue_room =
         let inside : i < length flags = omega arith in
         omega (arith, unset_set flags i inside clear, q.each_once)
 
-    pub queued_more : Queued n (set flags i true) (set queue count i) (count + 1)
+    pub queued_more : Queued n (set flags i true) (queue ++ i ∷ [])
     queued_more =
         let inside : i < length flags = omega arith in
-        let free : count < length queue = queue_room in
-        let same : (p : ℕ) → p < count → get_or (set queue count i) p 0 ≡ get_or queue p 0 = λ p l. let ne : p ≢ count = omega arith in get_or-set_other queue count p i 0 ne in
-        let here : get_or (set queue count i) count 0 ≡ i = get_or-set_same queue count i 0 free in
+        let more : length (queue ++ i ∷ []) ≡ length queue + 1 = length_push queue i in
+        let same : (p : ℕ) → p < length queue → get_or (queue ++ i ∷ []) p 0 ≡ get_or queue p 0 = λ p l. get_or_append_left queue (i ∷ []) 0 p l in
+        let here : get_or (queue ++ i ∷ []) (length queue) 0 ≡ i = get_or_push queue i 0 (length queue) refl in
         let P : ℕ → Type 0 = λ y. (y < n) × Set (set flags i true) y in
         record {
-          each_once = omega (arith, unset_set flags i inside clear, q.each_once, length-set flags i true);
-          flagged = below_more _ _
+          each_once = omega (arith, unset_set flags i inside clear, q.each_once, length-set flags i true, more);
+          flagged = λ p l. below_more (λ p. P (get_or (queue ++ i ∷ []) p 0)) _
               (λ p l. subst P (sym (same p l)) ((q.flagged p l).0, set_stays flags i inside _ (q.flagged p l).1))
-              (subst P (sym here) (lt, get_or-set_same flags i true false inside));
+              (subst P (sym here) (lt, get_or-set_same flags i true false inside)) p (omega arith);
           queued = λ j ltj h. elim (set_cases flags i j h) [
-            | inl e ↦ (count, omega arith, here ∙ sym e)
+            | inl e ↦ (length queue, omega arith, here ∙ sym e)
             | inr s ↦ (let r = q.queued j ltj s in (r.0, omega (arith, r.1), same r.0 r.1 ∙ r.2))
           ];
         }
 
-    pub longer_more : (start : ℕ) (before : List ℕ) → Longer start before count queue → Longer start before (count + 1) (set queue count i)
-    longer_more start before m = record {
-      no_fewer = omega (arith, m.no_fewer);
-      same = λ p l. (let ne : p ≢ count = omega (arith, m.no_fewer) in get_or-set_other queue count p i 0 ne) ∙ m.same p l;
-    }
+  pub longer_more : (i : ℕ) (before : List ℕ) → Longer before queue → Longer before (queue ++ i ∷ [])
+  longer_more i before m = record {
+    no_fewer = omega (arith, m.no_fewer, length_push queue i);
+    same = λ p l. let l' : p < length queue = omega (arith, m.no_fewer) in get_or_append_left queue (i ∷ []) 0 p l' ∙ m.same p l;
+  }

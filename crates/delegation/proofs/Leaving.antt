@@ -1,33 +1,20 @@
 -- Flags of the grants that a withdrawal leaves, place by place.
-use Rattle.std.proofs.Common.{◌≡◌, ℕ, suc, ◌+◌, ◌<◌, Bool, false, ◌≢◌, List, [], ◌∷◌, length, get_or, set, Decides, sym, ap, subst, inl, inr, arith, below_more}
-use mathlib.Core.List.Memᴰ
+use Rattle.std.proofs.Common.{◌≡◌, ℕ, ◌+◌, ◌<◌, Bool, false, ◌==◌, ◌≢◌, List, length, get_or, set, Decides, sym, subst, inl, inr, arith, below_more}
 use mathlib.Core.List.{Memᴰ}
 use Rattle.std.specs.List.{HoldsAt}
 use Rattle.std.proofs.lemmas.List.Elements.{at_read}
 use Rattle.std.proofs.lemmas.List.{get_or-set_same, get_or-set_other}
-use Rattle.std.proofs.lemmas.Bool.{both_ways, cases_Bool, cases_eq}
+use Rattle.std.proofs.lemmas.Bool.{both_ways, cases_Bool}
+use Rattle.std.proofs.lemmas.Bool.Decides.{not_from_Decides, Decides-like}
+use Rattle.delegation.proofs.Judged.{same_lots}
 use Rattle.strength.specs.Kind.{Kind}
 use Rattle.book.specs.Rules.{Rules}
-use Rattle.book.specs.declared.rows.Lot.{Lot}
 use Rattle.delegation.specs.Rights.{Chained}
 use Rattle.delegation.specs.Walks.{LeftAt, Left, ChainsFlagged}
 use Rattle.delegation.specs.Withdrawals.{FlagsOf, Apart, Beside}
 use Rattle.delegation.specs.declared.grants.Grant.{Grant}
 use Rattle.delegation.proofs.Links.{wider, ends_in}
-use Rattle.delegation.proofs.Searches.{get_or-mem}
-
--- a flag that decides one thing decides another
-pub decides_by : {P Q : Type 0} (b : Bool) → (P → Q) → (Q → P) → Decides b P → Decides b Q
-decides_by b f g d = ((λ e. f (d.0 e)), (λ q. d.1 (g q)))
-
--- where a member is
-mem_place : {X : Type 0} {x : X} (xs : List X) → Memᴰ x xs → (i : ℕ) × (i < length xs) × ((d : X) → get_or xs i d ≡ x)
-mem_place [] m = absurd (Memᴰ.not-nil m)
-mem_place {x = x} (y ∷ ys) m =
-    elim (Memᴰ.cases_cons m) [
-      | inl e ↦ (0, omega arith, λ d. sym e)
-      | inr n ↦ (let r = mem_place ys n in (suc r.0, omega (arith, r.1), r.2))
-    ]
+use Rattle.delegation.proofs.Searches.{get_or-mem, mem_place}
 
 module _ {X : Type 0} (P : X → Type 0) (xs : List X) (i : ℕ) (x : X) (lt : i < length xs) (read : x ≡ get_or xs i x) where
   -- of the element that is read at the place
@@ -35,7 +22,7 @@ module _ {X : Type 0} (P : X → Type 0) (xs : List X) (i : ℕ) (x : X) (lt : i
   at_of h = subst P (sym read) (h x)
 
   pub decides_at : (b : Bool) → Decides b (P x) → Decides b (HoldsAt P xs i)
-  decides_at b d = decides_by {P = P x} {Q = HoldsAt P xs i} b (at_read xs P i x lt read) at_of d
+  decides_at b d = Decides-like {P = P x} {Q = HoldsAt P xs i} b (at_read xs P i x lt read) at_of d
 
 -- one place more
 pub flags_more : {X : Type 0} (P : X → Type 0) (xs : List X) (flags : List Bool) (i : ℕ) (b : Bool) → i < length flags → ((j : ℕ) → j < i → Decides (get_or flags j false) (HoldsAt P xs j)) →
@@ -61,7 +48,7 @@ module _ {S : Type 0} (gs : List (Grant S)) (named : Grant S) (gone : List Bool)
       (p.0, beside_at p.0 p.1 (λ d. subst (Beside gs named) (sym (p.2 d)) b), p.2)
 
   on_lot : (h : Grant S) → (Apart named h → ⊥) → h.lot ≡ named.lot
-  on_lot h n = elim (cases_eq h.lot.0 named.lot.0) [ inl e ↦ (λ i. record { 0 = e i }) | inr m ↦ absurd (n (inl (λ e. m (ap (λ (l : Lot). l.0) e)))) ]
+  on_lot h n = let d = same_lots h.lot named.lot in elim (cases_Bool (h.lot.0 == named.lot.0)) [ inl e ↦ d.0 e | inr e ↦ absurd (n (inl (not_from_Decides _ d e))) ]
 
   pub left_beside : (h : Grant S) → Left gs gone h → Beside gs named h
   left_beside h (i, left, is) =
@@ -70,7 +57,7 @@ module _ {S : Type 0} (gs : List (Grant S)) (named : Grant S) (gone : List Bool)
 
   pub chained_beside : (k : Kind S) (r : Rules S) (seen : List Bool) → ChainsFlagged k r gs gone seen → FlagsOf (Chained k r (Beside gs named)) gs seen
   chained_beside k r seen exact i lt =
-      decides_by {P = LeftAt gs gone i × HoldsAt (Chained k r (Left gs gone)) gs i} {Q = HoldsAt (Chained k r (Beside gs named)) gs i} (get_or seen i false)
+      Decides-like {P = LeftAt gs gone i × HoldsAt (Chained k r (Left gs gone)) gs i} {Q = HoldsAt (Chained k r (Beside gs named)) gs i} (get_or seen i false)
       (λ h d. wider k r (Left gs gone) (Beside gs named) (get_or gs i d) left_beside (h.1 d))
       (λ c. (beside_at i lt (λ d. ends_in k r (Beside gs named) (get_or gs i d) (c d)), λ d. wider k r (Beside gs named) (Left gs gone) (get_or gs i d) beside_left (c d)))
       (exact i)

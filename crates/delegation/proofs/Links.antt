@@ -1,40 +1,32 @@
 -- Chains: each grant of one has a chain, and one grant more.
-use Rattle.std.proofs.Common.{◌≡◌, ◌⊎◌, List, [], ◌∷◌, sym, refl, ap, subst, inl, inr}
+use Rattle.std.proofs.Common.{◌≡◌, ◌⊎◌, Bool, Decides, List, [], ◌∷◌, sym, refl, subst, inl, inr}
 use mathlib.Core.List.Memᴰ
 use mathlib.Core.List.{Memᴰ}
-use Rattle.std.proofs.lemmas.Bool.{cases_eq}
+use Rattle.std.proofs.lemmas.Bool.{cases_Bool}
+use Rattle.std.proofs.lemmas.Bool.Decides.{not_from_Decides}
 use Rattle.strength.specs.Kind.{Kind, ReadsBack}
 use Rattle.book.specs.Rules.{Rules}
 use Rattle.delegation.specs.Rights.{Heads, Supports, Chain, Chained}
 use Rattle.delegation.specs.Rights.Chain.{first, next}
 use Rattle.delegation.specs.declared.grants.Grant.{Grant}
 use Rattle.delegation.specs.declared.grants.Right.{Right}
-use Rattle.delegation.proofs.Judged.{same_grants}
+use Rattle.delegation.proofs.Judged.{same, decides_same}
 
 -- yes or no
 abbrev Settled : Type 0 → Type 0
 Settled P = P ⊎ (P → ⊥)
 
-both_settled : {P Q : Type 0} → Settled P → Settled Q → Settled (P × Q)
-both_settled (inl p) (inl q) = inl (p, q)
-both_settled (inl p) (inr n) = inr (λ h. n h.1)
-both_settled (inr n) s = inr (λ h. n h.0)
-
 settled_by : {P Q : Type 0} → (P → Q) → (Q → P) → Settled P → Settled Q
 settled_by f b (inl p) = inl (f p)
 settled_by f b (inr n) = inr (λ q. n (b q))
 
+-- what a test decides is settled
+settled_by_test : {P : Type 0} (b : Bool) → Decides b P → Settled P
+settled_by_test {P} b d = elim (cases_Bool b) [ inl e ↦ inl (d.0 e) | inr e ↦ inr (not_from_Decides b d e) ]
+
 -- grants are equal or not
-pub same_or_not : {S : Type 0} (k : Kind S) → ReadsBack k → (a b : Grant S) → Settled (a ≡ b)
-same_or_not k law a b =
-    settled_by
-    (λ e. same_grants k law a b
-    ((λ i. record { 0 = e.0 i }), (λ i. record { 0 = e.1.0 i }), (λ i. record { 0 = e.1.1.0 i }), (λ i. record { 0 = e.1.1.1.0 i })) e.1.1.1.1)
-    (λ e. (ap (λ x. x.lot.0) e, (ap (λ x. x.giver.0) e, (ap (λ x. x.receiver.0) e, (ap (λ x. x.right.step.0) e, ap (λ x. k.word x.right.strength) e)))))
-    (both_settled (cases_eq a.lot.0 b.lot.0)
-    (both_settled (cases_eq a.giver.0 b.giver.0)
-    (both_settled (cases_eq a.receiver.0 b.receiver.0)
-    (both_settled (cases_eq a.right.step.0 b.right.step.0) (cases_eq (k.word a.right.strength) (k.word b.right.strength))))))
+same_or_not : {S : Type 0} (k : Kind S) → ReadsBack k → (a b : Grant S) → Settled (a ≡ b)
+same_or_not k law a b = settled_by_test (same k a b) (decides_same k law a b)
 
 member_or_not : {S : Type 0} (k : Kind S) → ReadsBack k → (g : Grant S) (c : List (Grant S)) → Settled (Memᴰ g c)
 member_or_not k law g [] = inr (λ m. Memᴰ.not-nil m)

@@ -1,64 +1,86 @@
 -- Passes over a list that look for an element, for the first one, or count.
-use Rattle.std.proofs.Common.{◌≡◌, ℕ, zero, suc, ◌+◌, ◌<◌, ◌≤◌, List, [], ◌∷◌, ◌++◌, length, get_or, take, sym, refl, ap, ◌∙◌, subst, ⊎_elim, arith}
+use Rattle.std.proofs.Common.{◌≡◌, ℕ, zero, suc, ◌+◌, ◌<◌, Bool, true, false, cond, List, [], ◌∷◌, ◌++◌, length, get_or, take, Option, Decides, sym, refl, ap, ◌∙◌, subst, inl, inr, ⊎_elim, arith}
 use mathlib.Core.List.Memᴰ
 use mathlib.Core.List.{Memᴰ}
-use Rattle.std.proofs.lemmas.List.{length_push, take_more, take_all, get_or_read}
-use Rattle.delegation.specs.Found.{SomeOf, NoneOf, First, Filtered, Counted}
+use denote.Param.Members.{Mut, Called}
+use Rattle.std.specs.Bool.{MatchBool}
+use Rattle.std.specs.Iterator.{ChecksAny}
+use Rattle.std.specs.List.{filter, AllWithin, HoldsAt, IsAnyAnswer}
+use Rattle.std.proofs.lemmas.Bool.{false≢true, cases_Bool}
+use Rattle.std.proofs.lemmas.Bool.Decides.{not_from_Decides, Decides-like}
+use Rattle.std.proofs.lemmas.Iterator.{YieldsList, cases_from_any}
+use Rattle.std.proofs.lemmas.List.Elements.{contains_decides}
+use Rattle.std.proofs.lemmas.List.{take_more}
+use Rattle.delegation.specs.Found.{SomeOf, NoneOf, Filtered, Counted}
 use Rattle.delegation.specs.Found.Filtered.{none, stays, goes}
+
+-- the element at a place of the list
+pub some_read : {X : Type 0} (xs : List X) (i : ℕ) → i < length xs → (x : X) × ((d : X) → get_or xs i d ≡ x)
+some_read [] i lt = absurd (omega arith)
+some_read (x ∷ xs) zero lt = (x, λ d. refl)
+some_read (x ∷ xs) (suc i) lt = some_read xs i (omega arith)
+
+-- where a member is
+pub mem_place : {X : Type 0} {x : X} (xs : List X) → Memᴰ x xs → (i : ℕ) × (i < length xs) × ((d : X) → get_or xs i d ≡ x)
+mem_place [] m = absurd (Memᴰ.not-nil m)
+mem_place {x = x} (y ∷ ys) m =
+    elim (Memᴰ.cases_cons m) [
+      | inl e ↦ (0, omega arith, λ d. sym e)
+      | inr n ↦ (let r = mem_place ys n in (suc r.0, omega (arith, r.1), r.2))
+    ]
 
 pub get_or-mem : {X : Type 0} (xs : List X) (i : ℕ) (d : X) → i < length xs → Memᴰ (get_or xs i d) xs
 get_or-mem [] i d h = absurd (omega arith)
 get_or-mem (x ∷ xs) zero d h = Memᴰ.head refl
 get_or-mem (x ∷ xs) (suc i) d h = Memᴰ.tail (get_or-mem xs i d (omega arith))
 
--- one more element passes a filter, or does not
-filtered_stays : {X : Type 0} {P : X → Type 0} {xs ys : List X} (x : X) → P x → Filtered P xs ys → Filtered P (xs ++ (x ∷ [])) (ys ++ (x ∷ []))
-filtered_stays x p none = stays p none
-filtered_stays x p (stays q f) = stays q (filtered_stays x p f)
-filtered_stays x p (goes q f) = goes q (filtered_stays x p f)
+-- what holds at a place holds of some element
+some_at : {X : Type 0} (P : X → Type 0) (xs : List X) → (k : ℕ) × (k < length xs) × HoldsAt P xs k → SomeOf P xs
+some_at P xs (k, lt, here) = let x = some_read xs k lt in (x.0, subst (λ y. Memᴰ y xs) (x.1 x.0) (get_or-mem xs k x.0 lt), subst P (x.1 x.0) (here x.0))
 
-filtered_goes : {X : Type 0} {P : X → Type 0} {xs ys : List X} (x : X) → (P x → ⊥) → Filtered P xs ys → Filtered P (xs ++ (x ∷ [])) ys
-filtered_goes x p none = goes p none
-filtered_goes x p (stays q f) = stays q (filtered_goes x p f)
-filtered_goes x p (goes q f) = goes q (filtered_goes x p f)
+-- `any` found an element that has Yes, or each has No
+pub some_or_none : {S A B F : Type 0} {steps : S → Option A → S → Type 0} {v : A → B} {g : Mut F (A × Unit {0}) Bool} {s : S} {xs : List B} (Yes No : B → Type 0) (u : S) (f : F) (r : Bool) →
+    ChecksAny steps g s f r u → YieldsList steps v s xs → ((x : A) (q : F) → Called g f (x, tt) true q → Yes (v x)) → ((x : A) (q : F) → Called g f (x, tt) false q → (q ≡ f) × No (v x)) →
+    MatchBool r (SomeOf Yes xs) ((x : B) → Memᴰ x xs → No x)
+some_or_none {xs = xs} Yes No u f r ran gives found not =
+    elim r as (λ b. MatchBool b ((k : ℕ) × (k < length xs) × HoldsAt Yes xs k) (AllWithin No xs 0 (length xs)) → MatchBool b (SomeOf Yes xs) ((x : _) → Memᴰ x xs → No x)) [
+      | true ↦ λ h. some_at Yes xs h
+      | false ↦ λ h x m. let p = mem_place xs m in subst No (p.2 x) (h p.0 x (omega arith) p.1)
+    ]
+    (cases_from_any u f r Yes No ran gives found not)
 
-module _ {X : Type 0} (P : X → Type 0) (xs : List X) where
-  -- before the first element
-  pub none_yet : NoneOf P (take 0 xs)
-  none_yet x m p = Memᴰ.not-nil m
+decides_some : {X : Type 0} (P : X → Type 0) (xs : List X) (b : Bool) → MatchBool b (SomeOf P xs) ((x : X) → Memᴰ x xs → P x → ⊥) → Decides b (SomeOf P xs)
+decides_some P xs true f = ((λ _. f), (λ _. refl))
+decides_some P xs false f = ((λ e. absurd (false≢true e)), (λ h. absurd (f h.0 h.1 h.2)))
 
-  -- after the last one
-  pub none_all : (i : ℕ) → length xs ≤ i → NoneOf P (take i xs) → NoneOf P xs
-  none_all i h nil x m = nil x (subst (λ l. Memᴰ x l) (sym (take_all i xs h)) m)
+-- `any` says whether some element has what its closure decides
+pub some_from_any : {S A B F : Type 0} {steps : S → Option A → S → Type 0} {v : A → B} {g : Mut F (A × Unit {0}) Bool} {s : S} {xs : List B} (P : B → Type 0) (u : S) (f : F) (r : Bool) →
+    ChecksAny steps g s f r u → YieldsList steps v s xs → ((x : A) (b : Bool) (q : F) → Called g f (x, tt) b q → (q ≡ f) × Decides b (P (v x))) → Decides r (SomeOf P xs)
+some_from_any {xs = xs} P u f r ran gives says =
+    decides_some P xs r
+    (some_or_none P (λ x. P x → ⊥) u f r ran gives (λ x q k. (says x true q k).1.0 refl) (λ x q k. let w = says x false q k in (w.0, not_from_Decides false w.1 refl)))
 
-  pub none_in : (i : ℕ) → length xs ≤ i → NoneOf P (take i xs) → SomeOf P xs → ⊥
-  none_in i h nil f = none_all i h nil f.0 f.1 f.2
+-- `contains` says whether a value is a member, where `==` decides equality
+pub member_from_contains : {X : Type 0} (E : X → X → Bool) → ((a b : X) → Decides (E a b) (a ≡ b)) → (xs : List X) (x : X) (r : Bool) → IsAnyAnswer (λ y t. E y x ≡ t) xs r → Decides r (Memᴰ x xs)
+member_from_contains E decides xs x r found =
+    Decides-like r (λ f. subst (λ y. Memᴰ y xs) (f.2 x) (get_or-mem xs f.0 x f.1)) (λ m. mem_place xs m) (contains_decides E decides xs x r found)
 
-  pub counted_all : (i n : ℕ) → length xs ≤ i → Counted P (take i xs) n → Counted P xs n
-  counted_all i n h c = subst (λ l. Counted P l n) (take_all i xs h) c
+-- a filter by a test that decides P keeps those that have P
+kept : {X : Type 0} (P : X → Type 0) (test : X → Bool) → ((x : X) → Decides (test x) (P x)) → (xs : List X) → Filtered P xs (filter test xs)
+kept P test decides [] = none
+kept P test decides (x ∷ xs) =
+    elim (cases_Bool (test x)) [
+      | inl e ↦ subst (λ b. Filtered P (x ∷ xs) (cond b (x ∷ filter test xs) (filter test xs))) (sym e) (stays ((decides x).0 e) (kept P test decides xs))
+      | inr e ↦ subst (λ b. Filtered P (x ∷ xs) (cond b (x ∷ filter test xs) (filter test xs))) (sym e) (goes (not_from_Decides (test x) (decides x) e) (kept P test decides xs))
+    ]
 
-  -- at the element x, which stands at place i
-  module _ (i : ℕ) (x : X) (h : i < length xs) (is : x ≡ get_or xs i x) where
-    here : take (i + 1) xs ≡ take i xs ++ (x ∷ [])
-    here = take_more xs i x h ∙ ap (λ y. take i xs ++ (y ∷ [])) (sym is)
+-- so its count is how many have it
+pub counted_by : {X : Type 0} (P : X → Type 0) (test : X → Bool) → ((x : X) → Decides (test x) (P x)) → (xs : List X) (n : ℕ) → n ≡ length (filter test xs) → Counted P xs n
+counted_by P test decides xs n e = (filter test xs, kept P test decides xs, e)
 
-    pub mem_in : Memᴰ x xs
-    mem_in = subst (λ y. Memᴰ y xs) (sym is) (get_or-mem xs i x h)
-
-    pub found_in : P x → SomeOf P xs
-    found_in p = (x, mem_in, p)
-
-    pub none_more : NoneOf P (take i xs) → (P x → ⊥) → NoneOf P (take (i + 1) xs)
-    none_more before not y m p =
-        ⊎_elim (λ (b : Memᴰ y (take i xs)). before y b p) (λ (b : Memᴰ y (x ∷ [])). not (subst P (Memᴰ.eq_of_singleton b) p))
-        (Memᴰ.append_cases (take i xs) (subst (λ l. Memᴰ y l) here m))
-
-    pub first_here : P x → NoneOf P (take i xs) → First P xs i
-    first_here p nil = (h, (λ d. subst P (get_or_read xs i x h is d) p), nil)
-
-    pub counted_yes : (n : ℕ) → P x → Counted P (take i xs) n → Counted P (take (i + 1) xs) (n + 1)
-    counted_yes n p c =
-        subst (λ l. Counted P l (n + 1)) (sym here) (c.0 ++ (x ∷ []), filtered_stays x p c.1, ap (λ k. k + 1) c.2 ∙ sym (length_push c.0 x))
-
-    pub counted_no : (n : ℕ) → (P x → ⊥) → Counted P (take i xs) n → Counted P (take (i + 1) xs) n
-    counted_no n p c = subst (λ l. Counted P l n) (sym here) (c.0, filtered_goes x p c.1, c.2)
+-- no element up to the one at a place has P, if no earlier one has it and this one has not
+pub none_more : {X : Type 0} (P : X → Type 0) (xs : List X) (i : ℕ) (x : X) → i < length xs → x ≡ get_or xs i x → NoneOf P (take i xs) → (P x → ⊥) → NoneOf P (take (i + 1) xs)
+none_more P xs i x h is before not y m p =
+    let here : take (i + 1) xs ≡ take i xs ++ (x ∷ []) = take_more xs i x h ∙ ap (λ z. take i xs ++ (z ∷ [])) (sym is) in
+    ⊎_elim (λ (b : Memᴰ y (take i xs)). before y b p) (λ (b : Memᴰ y (x ∷ [])). not (subst P (Memᴰ.eq_of_singleton b) p))
+    (Memᴰ.append_cases (take i xs) (subst (λ l. Memᴰ y l) here m))

@@ -6,26 +6,14 @@ use Rattle.book.specs.Rules.{Rules}
 use Rattle.book.specs.declared.rows.Entry.{Entry}
 use Rattle.book.specs.declared.rows.Lot.{Lot}
 use Rattle.book.specs.declared.rows.Person.{Person}
-use Rattle.delegation.specs.Rights.{Backs, Gives, Supports, right_of}
+use Rattle.delegation.specs.Rights.{Gives, Supports}
 use Rattle.delegation.specs.declared.grants.Grant.{Grant}
 use Rattle.delegation.specs.declared.grants.Right.{Right}
-
--- the grants agree in all but the strength
-abbrev pub SameNumbers : {S : Type 0} → Grant S → Grant S → Type 0
-SameNumbers a b = (a.lot ≡ b.lot) × (a.giver ≡ b.giver) × (a.receiver ≡ b.receiver) × (a.right.step ≡ b.right.step)
 
 module _ {S : Type 0} (k : Kind S) (r : Rules S) where
   -- the person plays the post of the row
   abbrev pub PlayRow : Person → Entry S → Type 0
   PlayRow u e = Plays r.plays u.0 e.key.post.0
-
-  -- by this row of holds the giver has a right that backs the grant
-  abbrev pub HeadRow : Grant S → Entry S → Type 0
-  HeadRow g e = PlayRow g.giver e × Backs k r (right_of e) g
-
-  -- by this row of holds the person has a right that gives q
-  abbrev pub GiveRow : Person → Right S → Entry S → Type 0
-  GiveRow u q e = PlayRow u e × Gives k r (right_of e) q
 
   -- this grant supports g on its lot
   abbrev pub SupportOn : Grant S → Grant S → Type 0

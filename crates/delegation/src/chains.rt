@@ -1,85 +1,77 @@
 // Which grants a chain ends in.
-ghost use Rattle.std.specs.Prelude.{◌≡◌, ℕ, ◌<◌, ◌≤◌, length, Decides};
+ghost use Rattle.std.specs.Prelude.{◌≤◌, length, Decides};
 ghost use Rattle.book.specs.Books.{rules};
 ghost use Rattle.delegation.specs.Walks.{Queued, Longer, Leads, Reached, ChainsFlagged};
 
 use crate::grants::Grant;
 use crate::rights::{heads, supports};
+use arrayvec::ArrayVec;
 use book::Book;
 use strength::Strength;
 
-const MOST_GRANTS: usize = 512;
+// A type for so few grants would ask the same of whoever makes one, so three contracts say it.
+/// At most this many grants stand in a register.
+pub const MOST_GRANTS: usize = 512;
 
-/// What comes before a grant in a chain.
-#[derive(Clone, Copy)]
-pub(crate) enum Source<S> {
-    /// The rights that people hold by post.
-    Posts,
-    /// A grant that stands.
-    Standing(Grant<S>),
-}
+/// Places of grants that wait. It lies in the value itself, so a walk never wants for memory.
+type Queue = ArrayVec<usize, MOST_GRANTS>;
 
-/// Whether a grant may come next after the source.
-fn leads<S: Strength>(book: &Book<S>, source: Source<S>, grant: Grant<S>) -> bool
-    ensures { Decides result (Leads S.kind (rules book.now) source grant) }
+/// Whether a grant may come next in a chain: at its head, or after another grant.
+fn leads<S: Strength>(book: &Book<S>, earlier: Option<Grant<S>>, grant: Grant<S>) -> bool
+    ensures { Decides result (Leads S.kind (rules book.now) earlier grant) }
 {
-    match source {
-        Source::Posts => heads(book, grant),
-        Source::Standing(earlier) => supports(book, earlier, grant),
+    match earlier {
+        None => heads(book, grant),
+        Some(earlier) => supports(book, earlier, grant),
     }
 }
 
-/// Flags and queues each grant that is not gone and may come next after the source. The answer is
-/// how many are in the queue.
+// What is gone and what is seen lie beside the grants, since callers give and get such flags.
+/// Flags and queues each grant that is not gone and may come next.
 fn reach<S: Strength>(
     book: &Book<S>,
     grants: &[Grant<S>],
     gone: &[bool],
-    source: Source<S>,
+    earlier: Option<Grant<S>>,
     seen: &mut [bool],
-    queue: &mut [usize],
-    start: usize,
-) -> usize
+    queue: &mut Queue,
+)
     requires flags { length grants.now ≤ length gone.now }
     requires room { length grants.now ≤ length seen.old }
-    requires fits { length seen.old ≤ length queue.old }
-    requires queued { Queued (length grants.now) seen.old queue.old start }
-    ensures reached { Reached S.kind (rules book.now) source grants.now gone.now (length grants.now) seen.old seen.new }
-    ensures queued { Queued (length grants.now) seen.new queue.new result }
-    ensures longer { Longer start queue.old result queue.new }
+    requires fits { length seen.old ≤ MOST_GRANTS }
+    requires queued { Queued (length grants.now) seen.old queue.old.items }
+    ensures reached { Reached S.kind (rules book.now) earlier grants.now gone.now (length grants.now) seen.old seen.new }
+    ensures queued { Queued (length grants.now) seen.new queue.new.items }
+    ensures longer { Longer queue.old.items queue.new.items }
 {
-    let mut count = start;
-    for i in 0..grants.len() {
-        if gone[i] {
-            continue;
-        }
-        if seen[i] {
-            continue;
-        }
-        if !leads(book, source, grants[i]) {
+    for (i, grant) in grants.iter().enumerate() {
+        if gone[i] || seen[i] || !leads(book, earlier, *grant) {
             continue;
         }
         seen[i] = true;
-        queue[count] = i;
-        count += 1;
+        queue.push(i);
     }
-    count
 }
 
 /// Flags of the grants that a chain of those that are not gone ends in. The walk goes breadth
 /// first, so that it meets each grant by a shortest chain.
-pub fn chained<S: Strength>(book: &Book<S>, grants: &[Grant<S>], gone: &[bool]) -> [bool; 512]
-    requires few { length grants.now ≤ 512 }
+pub fn chained<S: Strength>(
+    book: &Book<S>,
+    grants: &[Grant<S>],
+    gone: &[bool],
+) -> [bool; MOST_GRANTS]
+    requires few { length grants.now ≤ MOST_GRANTS }
     requires flags { length grants.now ≤ length gone.now }
     ensures { ChainsFlagged S.kind (rules book.now) grants.now gone.now result }
 {
     let mut seen = [false; MOST_GRANTS];
-    let mut queue = [0; MOST_GRANTS];
-    let mut count = reach(book, grants, gone, Source::Posts, &mut seen, &mut queue, 0);
+    let mut queue = Queue::new();
+    reach(book, grants, gone, None, &mut seen, &mut queue);
     let mut done = 0;
-    while done < count {
-        let source = Source::Standing(grants[queue[done]]);
-        count = reach(book, grants, gone, source, &mut seen, &mut queue, count);
+    // By index, since the queue grows while it is walked: an iterator would hold it.
+    while done < queue.len() {
+        let earlier = grants[queue[done]];
+        reach(book, grants, gone, Some(earlier), &mut seen, &mut queue);
         done += 1;
     }
     seen

@@ -5,25 +5,23 @@ use std::fs::File;
 use std::io;
 use std::io::{ErrorKind, Read};
 
+/// The first bytes of what a source has.
+fn first_bytes<R: Read + Drop>(rt: &HostRuntime, source: R, most: u64) -> io::Result<Vec<u8>> {
+    let mut bytes = Vec::new(rt.alloc());
+    source.take(most).read_to_end(&mut bytes)?;
+    Ok(bytes)
+}
+
 /// The first bytes of a file, none where there is no such file.
 pub fn file_or_none(rt: &HostRuntime, path: &str, most: u64) -> io::Result<Vec<u8>> {
-    let mut bytes = Vec::new(rt.alloc());
     match File::open(rt, path) {
-        Ok(file) => {
-            file.take(most).read_to_end(&mut bytes)?;
-        }
-        Err(fault) => {
-            if fault.kind() != ErrorKind::NotFound {
-                return Err(fault);
-            }
-        }
+        Ok(file) => first_bytes(rt, file, most),
+        Err(fault) if fault.kind() == ErrorKind::NotFound => Ok(Vec::new(rt.alloc())),
+        Err(fault) => Err(fault),
     }
-    Ok(bytes)
 }
 
 /// The first bytes of standard input.
 pub fn input(rt: &HostRuntime, most: u64) -> io::Result<Vec<u8>> {
-    let mut bytes = Vec::new(rt.alloc());
-    rt.stdin().take(most).read_to_end(&mut bytes)?;
-    Ok(bytes)
+    first_bytes(rt, rt.stdin(), most)
 }

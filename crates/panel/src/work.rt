@@ -1,11 +1,9 @@
 // From a book and a script to the answers.
-ghost use Rattle.std.specs.Prelude.{◌≡◌, IfOk, vec_len};
-
 use crate::failure::Failure;
 use book::{Book, BookFault, Lot, MOST_BYTES, Person, Step};
 use delegation::{Grant, Right};
 use files::{file_or_none, input};
-use register::{Record, Register};
+use register::{MOST_GRANTS, MOST_RECORDS, Record, Register};
 use script::{Fault, LONGEST_SCRIPT, run, tell_refusal};
 use std::alloc::{AllocError, Global};
 use std::io::Write;
@@ -16,21 +14,6 @@ const MOST_BOOK: u64 = MOST_BYTES as u64 + 1;
 
 // With one byte more a script is known to be too long.
 const MOST_SCRIPT: u64 = LONGEST_SCRIPT as u64 + 1;
-
-const MOST_GRANTS: usize = 512;
-
-const MOST_RECORDS: usize = 1024;
-
-/// So many copies of a value.
-fn filled<T: Copy>(heap: Global, value: T, count: usize) -> Result<Vec<T>, AllocError>
-    ensures { IfOk result (λ v. vec_len v ≡ count) }
-{
-    let mut values = Vec::new(heap);
-    for _i in 0..count {
-        values.push(value)?;
-    }
-    Ok(values)
-}
 
 /// The answers to a script under a book, in arrays that are filled with this strength at first.
 fn answers<S: Strength>(
@@ -55,8 +38,8 @@ fn answers<S: Strength>(
         step: Step(0),
         lot: Lot(0),
     };
-    let mut grants = filled(heap, grant, MOST_GRANTS)?;
-    let mut records = filled(heap, record, MOST_RECORDS)?;
+    let mut grants = vec![in heap; grant; MOST_GRANTS]?;
+    let mut records = vec![in heap; record; MOST_RECORDS]?;
     let mut output = Vec::new(heap);
     let mut register = Register::new(book, &mut grants, &mut records);
     run(&mut register, script, &mut output)?;
@@ -69,8 +52,7 @@ fn printed<S: Strength>(rt: &HostRuntime, path: &str, filler: S) -> Result<Vec<u
     match book::read::<S>(rt.alloc(), &bytes) {
         Ok(book) => {
             let script = input(rt, MOST_SCRIPT)?;
-            let output = answers(rt.alloc(), &book, &script, filler)?;
-            Ok(output)
+            Ok(answers(rt.alloc(), &book, &script, filler)?)
         }
         Err(BookFault::Refused(refusal)) => {
             let mut output = Vec::new(rt.alloc());
@@ -81,16 +63,17 @@ fn printed<S: Strength>(rt: &HostRuntime, path: &str, filler: S) -> Result<Vec<u
     }
 }
 
+/// Prints what is to be printed.
+fn print<S: Strength>(rt: &HostRuntime, path: &str, filler: S) -> Result<(), Failure> {
+    let output = printed(rt, path, filler)?;
+    rt.stdout().write_all(&output)?;
+    Ok(())
+}
+
 /// Answers the script on standard input under the book at this path. The filler is any strength of the line's kind: it
 /// stands in places of the arrays that hold no grant yet.
 pub fn serve<S: Strength>(rt: &HostRuntime, path: &str, filler: S) -> Result<(), Failure> {
-    let result = match printed(rt, path, filler) {
-        Ok(output) => match rt.stdout().write_all(&output) {
-            Ok(()) => Ok(()),
-            Err(fault) => Err(Failure::Stream(fault)),
-        },
-        Err(failure) => Err(failure),
-    };
+    let result = print(rt, path, filler);
     if let Err(failure) = &result {
         // Where standard error fails too, the status is all that is left to say it.
         let _ = eprintln!(rt; "{failure}");

@@ -6,9 +6,7 @@ use std::process::ExitCode;
 use strength::{Count, Marks, Reach};
 
 fn main(rt: HostRuntime) -> ExitCode {
-    let Some(filler) = Reach::new(Count(0), Marks(0)) else {
-        unreachable()
-    };
+    let filler = Reach::new(Count(0), Marks(0)).unwrap();
     match serve(&rt, "press.book", filler) {
         Ok(()) => ExitCode::SUCCESS,
         Err(_) => ExitCode::FAILURE,

@@ -12,50 +12,48 @@ use Rattle.delegation.specs.declared.grants.Grant.{Grant}
 use Rattle.register.specs.Answers.{Answers}
 use Rattle.register.specs.Answers.Answers.{refused, granted, told_yes, told_no}
 use Rattle.register.specs.Causes.{causes, grant_of, right_to, with_strength}
-use Rattle.register.specs.Refusals.{Allowed, Cause, Checks, Refused}
-use Rattle.register.specs.Replies.{reply, Says}
-use Rattle.register.specs.Shape.{Called, Places, rows, state_of}
+use Rattle.register.specs.Refusals.{Allowed, Check, Checks, Refused}
+use Rattle.register.specs.Replies.{Says}
+use Rattle.register.specs.Shape.{Called, SameArray, rows, state_of}
 use Rattle.register.specs.State.{State}
 use Rattle.register.specs.declared.calls.Call.{Call}
 use Rattle.register.specs.declared.calls.Call.TheVariants.{Entitled as Asks, Grant as Grants}
-use Rattle.register.specs.declared.calls.Reply.{Reply}
-use Rattle.register.specs.declared.calls.Reply.TheVariants.{Answer, Refusal}
+use Rattle.register.specs.declared.faults.Cause.{Cause}
 use Rattle.register.specs.declared.faults.RegisterFault.{RegisterFault}
 use Rattle.register.specs.declared.register.Register.{Register}
 use Rattle.register.specs.declared.table.Table.{Table}
 
-pub same_places : {X : Type 0} (t : Table X) → Places t t
-same_places t = sym (take-append-drop t.used t.places.now)
+pub same_array : {X : Type 0} {most : ℕ} (t : Table X most) → SameArray t t
+same_array t = record { places = sym (take-append-drop t.used t.places.now); lender = refl }
 
 -- a call that leaves all as it was
-pub unchanged : {S : Type 0} (k : Kind S) (c : Call) (e : Reply) (b : Register S) →
+pub unchanged : {S : Type 0} (k : Kind S) (c : Call) (e : Result ℕ RegisterFault) (b : Register S) →
     Answers k (rules b.book.now) (state_of b) c e (state_of b) → Called k c e b b
-unchanged k c e b a = record { answer = a; grants = same_places b.grants; records = same_places b.records; book = refl }
+unchanged k c e b a = record { answer = a; grants = same_array b.grants; records = same_array b.records; book = refl }
 
 -- a refusal leaves all as it was
-pub refuses : {S : Type 0} (k : Kind S) (c : Call) (r : Result ℕ RegisterFault) (b : Register S) (e : ℕ × ℕ) →
-    (f : RegisterFault) × (r ≡ Err f) × (f ≡ record { number = e.0; place = e.1 }) →
-    Refused (causes k (rules b.book.now) (state_of b) c) e.0 e.1 → Called k c (reply r) b b
+pub refuses : {S : Type 0} (k : Kind S) (c : Call) (r : Result ℕ RegisterFault) (b : Register S) (e : Cause × ℕ) →
+    (f : RegisterFault) × (r ≡ Err f) × (f ≡ record { cause = e.0; place = e.1 }) →
+    Refused (causes k (rules b.book.now) (state_of b) c) e.0 e.1 → Called k c r b b
 refuses k c r b e was h =
-    let fault : RegisterFault = record { number = e.0; place = e.1 } in
-    let P = λ (x : Result ℕ RegisterFault). Called k c (reply x) b b in
-    subst P (sym (was.1 ∙ ap Err was.2)) (unchanged k c (Refusal fault) b (refused h))
+    let P = λ (x : Result ℕ RegisterFault). Called k c x b b in
+    subst P (sym (was.1 ∙ ap Err was.2)) (unchanged k c (Err (record { cause = e.0; place = e.1 })) b (refused h))
 
 -- checks after checks
-pub refused_first : (xs ys : List Cause) (n p : ℕ) → Refused xs n p → Refused (xs ++ ys) n p
+pub refused_first : (xs ys : List Check) (n : Cause) (p : ℕ) → Refused xs n p → Refused (xs ++ ys) n p
 refused_first [] ys n p h = absurd h
 refused_first (x ∷ xs) ys n p (inl h) = inl h
 refused_first (x ∷ xs) ys n p (inr h) = inr (h.0, refused_first xs ys n p h.1)
 
-pub refused_then : (xs ys : List Cause) (n p : ℕ) → Allowed xs → Refused ys n p → Refused (xs ++ ys) n p
+pub refused_then : (xs ys : List Check) (n : Cause) (p : ℕ) → Allowed xs → Refused ys n p → Refused (xs ++ ys) n p
 refused_then [] ys n p a h = h
 refused_then (x ∷ xs) ys n p a h = inr (a.0, refused_then xs ys n p a.1 h)
 
-pub allowed_then : (xs ys : List Cause) → Allowed xs → Allowed ys → Allowed (xs ++ ys)
+pub allowed_then : (xs ys : List Check) → Allowed xs → Allowed ys → Allowed (xs ++ ys)
 allowed_then [] ys a b = b
 allowed_then (x ∷ xs) ys a b = (a.0, allowed_then xs ys a.1 b)
 
-pub checks_then : {X : Type 0} (xs ys : List Cause) (Q : Type 0) (P : X → Type 0) (r : Result X (ℕ × ℕ)) → Allowed xs → Q → Checks ys P r → Checks (xs ++ ys) (λ x. Q × P x) r
+pub checks_then : {X : Type 0} (xs ys : List Check) (Q : Type 0) (P : X → Type 0) (r : Result X (Cause × ℕ)) → Allowed xs → Q → Checks ys P r → Checks (xs ++ ys) (λ x. Q × P x) r
 checks_then xs ys Q P (Ok x) a q h = (allowed_then xs ys a h.0, (q, h.1))
 checks_then xs ys Q P (Err e) a q h = refused_then xs ys e.0 e.1 a h
 
@@ -64,21 +62,21 @@ pub grants_it : {S : Type 0} (k : Kind S) (b : Register S) (gs : List (Grant S))
     Allowed (causes k (rules b.book.now) (state_of b) (Grants g u t w n)) → k.of_word w ≡ Some s →
     Backed k (rules b.book.now) (rows b.grants) (grant_of g u t n s) →
     gs ≡ rows b.grants ++ (grant_of g u t n s ∷ []) → Counted (λ h. h.lot ≡ n) gs m →
-    Answers k (rules b.book.now) (state_of b) (Grants g u t w n) (Answer m) (record { lots = (state_of b).lots; grants = gs; records = rows b.records })
+    Answers k (rules b.book.now) (state_of b) (Grants g u t w n) (Ok m) (record { lots = (state_of b).lots; grants = gs; records = rows b.records })
 grants_it {S} k b gs g u t w n s m a reads backed is c =
-    let A = λ (hs : List (Grant S)). Answers k (rules b.book.now) (state_of b) (Grants g u t w n) (Answer m) (record { lots = (state_of b).lots; grants = hs; records = rows b.records }) in
+    let A = λ (hs : List (Grant S)). Answers k (rules b.book.now) (state_of b) (Grants g u t w n) (Ok m) (record { lots = (state_of b).lots; grants = hs; records = rows b.records }) in
     subst A (sym is) (granted a reads backed (subst (λ hs. Counted (λ h. h.lot ≡ n) hs m) is c))
 
 -- a question is answered
 pub tells_it : {S : Type 0} (k : Kind S) (r : Rules S) (st : State S) (u : Person) (t : Step) (w : ℕ) (n : Lot) (s : S) (m : ℕ) →
     Allowed (causes k r st (Asks u t w n)) → k.of_word w ≡ Some s → Says (Entitled k r st.grants u (right_to t s) n) m →
-    Answers k r st (Asks u t w n) (Answer m) st
-tells_it k r st u t w n s m a reads (inl y) = subst (λ (v : ℕ). Answers k r st (Asks u t w n) (Answer v) st) (sym y.0) (told_yes a reads y.1)
-tells_it k r st u t w n s m a reads (inr y) = subst (λ (v : ℕ). Answers k r st (Asks u t w n) (Answer v) st) (sym y.0) (told_no a reads y.1)
+    Answers k r st (Asks u t w n) (Ok m) st
+tells_it k r st u t w n s m a reads (inl y) = subst (λ (v : ℕ). Answers k r st (Asks u t w n) (Ok v) st) (sym y.0) (told_yes a reads y.1)
+tells_it k r st u t w n s m a reads (inr y) = subst (λ (v : ℕ). Answers k r st (Asks u t w n) (Ok v) st) (sym y.0) (told_no a reads y.1)
 
 -- the causes that concern the strength of a word
-pub refused_with : {S : Type 0} (o : Option S) (s : S) (f : S → List Cause) (n p : ℕ) → o ≡ Some s → Refused (f s) n p → Refused (with_strength o f) n p
+pub refused_with : {S : Type 0} (o : Option S) (s : S) (f : S → List Check) (n : Cause) (p : ℕ) → o ≡ Some s → Refused (f s) n p → Refused (with_strength o f) n p
 refused_with o s f n p e h = subst (λ v. Refused (with_strength v f) n p) (sym e) h
 
-pub allowed_with : {S : Type 0} (o : Option S) (s : S) (f : S → List Cause) → o ≡ Some s → Allowed (f s) → Allowed (with_strength o f)
+pub allowed_with : {S : Type 0} (o : Option S) (s : S) (f : S → List Check) → o ≡ Some s → Allowed (f s) → Allowed (with_strength o f)
 allowed_with o s f e h = subst (λ v. Allowed (with_strength v f)) (sym e) h

@@ -1,8 +1,9 @@
 -- Passes over a list that look for an element.
-use Rattle.std.proofs.Common.{ℕ, zero, suc, ◌+◌, ◌<◌, ◌≤◌, List, [], ◌∷◌, length, get_or, take, sym, refl, subst, ⊎_elim, arith}
+use Rattle.std.proofs.Common.{Bool, true, Decides, ◌≡◌, ℕ, zero, suc, ◌<◌, List, [], ◌∷◌, length, get_or, sym, refl, ⊎_elim, arith}
 use mathlib.Core.List.Memᴰ
 use mathlib.Core.List.{Memᴰ}
-use Rattle.std.proofs.lemmas.List.{take_more, take_all}
+use Rattle.std.specs.List.{list_any}
+use Rattle.std.proofs.lemmas.Bool.{or_cases, or_left, or_right}
 use Rattle.delegation.specs.Found.{NoneOf, First}
 
 pub get_or-mem : {X : Type 0} (xs : List X) (i : ℕ) (d : X) → i < length xs → Memᴰ (get_or xs i d) xs
@@ -15,17 +16,14 @@ pub no_first : {X : Type 0} (P : X → Type 0) (xs : List X) (i : ℕ) → NoneO
 no_first P [] i nil f = absurd (omega (arith, f.0))
 no_first P (x ∷ xs) i nil f = nil (get_or (x ∷ xs) i x) (get_or-mem (x ∷ xs) i x f.0) (f.1 x)
 
-module _ {X : Type 0} (P : X → Type 0) (xs : List X) where
-  -- before the first element
-  pub none_yet : NoneOf P (take 0 xs)
-  none_yet x m p = Memᴰ.not-nil m
+-- a search for x by a test finds it exactly where it is
+pub Decides-mem : {X : Type 0} (test : X → Bool) (x : X) → ((y : X) → Decides (test y) (y ≡ x)) → (xs : List X) → Decides (list_any test xs) (Memᴰ x xs)
+Decides-mem {X} test x each xs = (found xs, has xs)
+  where
+    found : (ys : List X) → list_any test ys ≡ true → Memᴰ x ys
+    found [] e = absurd (cc)
+    found (y ∷ ys) e = ⊎_elim (λ t. Memᴰ.head (sym ((each y).0 t))) (λ r. Memᴰ.tail (found ys r)) (or_cases (test y) (list_any test ys) e)
 
-  -- after the last one
-  pub none_all : (i : ℕ) → length xs ≤ i → NoneOf P (take i xs) → NoneOf P xs
-  none_all i h nil x m = nil x (subst (λ l. Memᴰ x l) (sym (take_all i xs h)) m)
-
-  -- at the element in place i
-  pub none_more : (i : ℕ) (d : X) → i < length xs → NoneOf P (take i xs) → (P (get_or xs i d) → ⊥) → NoneOf P (take (i + 1) xs)
-  none_more i d h before not y m p =
-      ⊎_elim (λ (b : Memᴰ y (take i xs)). before y b p) (λ (b : Memᴰ y (get_or xs i d ∷ [])). not (subst P (Memᴰ.eq_of_singleton b) p))
-      (Memᴰ.append_cases (take i xs) (subst (λ l. Memᴰ y l) (take_more xs i d h) m))
+    has : (ys : List X) → Memᴰ x ys → list_any test ys ≡ true
+    has [] m = absurd (Memᴰ.not-nil m)
+    has (y ∷ ys) m = ⊎_elim (λ (e : x ≡ y). or_left (test y) (list_any test ys) ((each y).1 (sym e))) (λ (t : Memᴰ x ys). or_right (test y) (list_any test ys) (has ys t)) (Memᴰ.cases_cons m)

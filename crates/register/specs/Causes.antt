@@ -1,4 +1,4 @@
--- When calls are refused: the table of causes.
+-- When calls are refused: the checks of each call, in their order.
 use Rattle.std.specs.Prelude.{◌≡◌, ℕ, ◌+◌, ◌<◌, ◌≤◌, ◌⊎◌, List, [], ◌∷◌, ◌++◌, length, Some, None, Option}
 use mathlib.Core.List.{Memᴰ}
 use Rattle.strength.specs.Kind.{Kind}
@@ -10,28 +10,29 @@ use Rattle.delegation.specs.Found.{First}
 use Rattle.delegation.specs.Rights.{On, Backed, Forbids}
 use Rattle.delegation.specs.declared.grants.Grant.{Grant}
 use Rattle.delegation.specs.declared.grants.Right.{Right}
-use Rattle.register.specs.Refusals.{Cause, cause, cause_at}
+use Rattle.register.specs.Refusals.{Check, check, check_at}
 use Rattle.register.specs.State.{State}
+use Rattle.register.specs.declared.faults.Cause.TheVariants.{ShortArrays, UnknownPerson, UnknownStep, UnlawfulWord, LotOutOfRange, LotNotOpen, LotAlreadyOpen, TooManyLots, GiverIsReceiver, NotBacked, Barred, AlreadyStands, TooManyGrants}
 use Rattle.register.specs.declared.calls.Call.{Call}
 use Rattle.register.specs.declared.calls.Call.TheVariants.{Open, Close, Entitled as Asks, Grant as Grants}
 
--- 7: the arrays have no room for 512 grants and 1,024 records
-abbrev pub short_arrays : ℕ → ℕ → List Cause
-short_arrays grants records = cause 7 0 ((grants < 512) ⊎ (records < 1024)) ∷ []
+-- the arrays have no room for 512 grants and 1,024 records
+abbrev pub short_arrays : ℕ → ℕ → List Check
+short_arrays grants records = check ShortArrays 0 ((grants < 512) ⊎ (records < 1024)) ∷ []
 
--- 13: there is no such lot; 15: it is open; 16: 32 lots are open
-abbrev pub opening : List Lot → Lot → List Cause
+-- there is no such lot; it is open; 32 lots are open
+abbrev pub opening : List Lot → Lot → List Check
 opening lots n =
-    cause 13 0 (65535 < n.0)
-    ∷ cause 15 0 (Memᴰ n lots)
-    ∷ cause 16 0 (length lots ≡ 32)
+    check LotOutOfRange 0 (65535 < n.0)
+    ∷ check LotAlreadyOpen 0 (Memᴰ n lots)
+    ∷ check TooManyLots 0 (length lots ≡ 32)
     ∷ []
 
--- 13: there is no such lot; 14: it is not open
-abbrev pub closing : List Lot → Lot → List Cause
+-- there is no such lot; it is not open
+abbrev pub closing : List Lot → Lot → List Check
 closing lots n =
-    cause 13 0 (65535 < n.0)
-    ∷ cause 14 0 (Memᴰ n lots → ⊥)
+    check LotOutOfRange 0 (65535 < n.0)
+    ∷ check LotNotOpen 0 (Memᴰ n lots → ⊥)
     ∷ []
 
 abbrev pub right_to : {S : Type 0} → Step → S → Right S
@@ -41,46 +42,46 @@ abbrev pub grant_of : {S : Type 0} → Person → Person → Step → Lot → S 
 grant_of g u t n s = record { giver = g; receiver = u; right = right_to t s; lot = n }
 
 -- causes that concern the strength that a word stands for
-abbrev pub with_strength : {S : Type 0} → Option S → (S → List Cause) → List Cause
+abbrev pub with_strength : {S : Type 0} → Option S → (S → List Check) → List Check
 with_strength (Some s) causes = causes s
 with_strength None causes = []
 
 module _ {S : Type 0} (k : Kind S) (r : Rules S) where
-  -- 10: there is no such person, which is named at place i
-  abbrev pub nobody : ℕ → Person → Cause
-  nobody i u = cause 10 i (length r.marks ≤ u.0)
+  -- there is no such person, which is named at place i
+  abbrev pub nobody : ℕ → Person → Check
+  nobody i u = check UnknownPerson i (length r.marks ≤ u.0)
 
-  -- 11: there is no such step; 12: no strength has the word; 13, 14: as for closing; all from place i on
-  abbrev pub naming : List Lot → ℕ → Step → ℕ → Lot → List Cause
+  -- there is no such step; no strength has the word; there is no such lot, or it is not open; all from place i on
+  abbrev pub naming : List Lot → ℕ → Step → ℕ → Lot → List Check
   naming lots i t w n =
-      cause 11 i (r.steps ≤ t.0)
-      ∷ cause 12 (i + 1) (k.of_word w ≡ None)
-      ∷ cause 13 (i + 2) (65535 < n.0)
-      ∷ cause 14 (i + 2) (Memᴰ n lots → ⊥)
+      check UnknownStep i (r.steps ≤ t.0)
+      ∷ check UnlawfulWord (i + 1) (k.of_word w ≡ None)
+      ∷ check LotOutOfRange (i + 2) (65535 < n.0)
+      ∷ check LotNotOpen (i + 2) (Memᴰ n lots → ⊥)
       ∷ []
 
-  abbrev pub asking : List Lot → Person → Step → ℕ → Lot → List Cause
+  abbrev pub asking : List Lot → Person → Step → ℕ → Lot → List Check
   asking lots u t w n = nobody 0 u ∷ naming lots 1 t w n
 
-  abbrev pub passing : List Lot → Person → Person → Step → ℕ → Lot → List Cause
+  abbrev pub passing : List Lot → Person → Person → Step → ℕ → Lot → List Check
   passing lots g u t w n = nobody 0 g ∷ nobody 1 u ∷ naming lots 2 t w n
 
-  -- 17: giver and receiver are one; 18: no right of the giver on the lot backs the grant
-  abbrev pub backing : List (Grant S) → Grant S → List Cause
-  backing gs g = cause 17 0 (g.giver ≡ g.receiver) ∷ cause 18 0 (Backed k r gs g → ⊥) ∷ []
+  -- giver and receiver are one; no right of the giver on the lot backs the grant
+  abbrev pub backing : List (Grant S) → Grant S → List Check
+  backing gs g = check GiverIsReceiver 0 (g.giver ≡ g.receiver) ∷ check NotBacked 0 (Backed k r gs g → ⊥) ∷ []
 
-  -- 19: a bar forbids the grant, the first that does at this place; 20: an equal one stands on the lot; 21: 512 stand
-  abbrev pub joining : List (Grant S) → Grant S → List Cause
+  -- a bar forbids the grant, the first that does at this place; an equal one stands on the lot; 512 stand
+  abbrev pub joining : List (Grant S) → Grant S → List Check
   joining gs g =
-      cause_at 19 (First (Forbids k r g) r.bars)
-      ∷ cause 20 0 (On gs g.lot g)
-      ∷ cause 21 0 (length gs ≡ 512)
+      check_at Barred (First (Forbids k r g) r.bars)
+      ∷ check AlreadyStands 0 (On gs g.lot g)
+      ∷ check TooManyGrants 0 (length gs ≡ 512)
       ∷ []
 
-  abbrev pub granting : List (Grant S) → Grant S → List Cause
+  abbrev pub granting : List (Grant S) → Grant S → List Check
   granting gs g = backing gs g ++ joining gs g
 
-  abbrev pub causes : State S → Call → List Cause
+  abbrev pub causes : State S → Call → List Check
   causes st (Open n) = opening st.lots n
   causes st (Close n) = closing st.lots n
   causes st (Asks u t w n) = asking st.lots u t w n

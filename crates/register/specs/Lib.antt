@@ -1,4 +1,5 @@
 pub mod State
+pub mod Numbers
 pub mod Refusals
 pub mod Causes
 pub mod Replies

@@ -1,10 +1,9 @@
-// What is asked of a register, and what it replies.
+// What is asked of a register.
 
-use crate::faults::RegisterFault;
 use book::{Lot, Person, Step};
 
 /// A call. A word is the number that stands for a strength.
-#[derive(Clone, Copy)]
+#[derive(Clone, Copy, Debug, PartialEq, Eq)]
 pub enum Call {
     /// To open a lot.
     Open {
@@ -29,13 +28,4 @@ pub enum Call {
         word: u64,
         lot: Lot,
     },
-}
-
-/// What a call is told.
-#[derive(Clone, Copy)]
-pub enum Reply {
-    /// It is accepted, with this answer.
-    Answer(u64),
-    /// It is refused, and all is as it was.
-    Refusal(RegisterFault),
 }

@@ -1,30 +1,38 @@
-// The checks of calls, in the order of their numbers. A refusal is a number and a place.
+// The checks of calls, in the order of the numbers of their causes.
 ghost use mathlib.Core.List.{Memᴰ};
 ghost use Rattle.std.specs.Prelude.{◌≡◌, ◌<◌, ◌≤◌, length, Some, Decides};
 ghost use Rattle.book.specs.Books.{rules};
 ghost use Rattle.register.specs.Causes.{short_arrays, opening, closing, naming, asking, passing};
 ghost use Rattle.register.specs.Refusals.{Checks};
 
-use book::{Book, Lot, Person, Refusal, Step};
+use crate::faults::{Cause, Refusal};
+use book::{Book, Lot, Person, Step};
+use delegation::MOST_GRANTS;
 use strength::Strength;
 
-const LAST_LOT: u64 = 65535;
+/// Lots are numbered up to this.
+const LAST_LOT: u64 = 65_535;
 
-const MOST_LOTS: usize = 32;
+/// How many lots are open at most.
+pub(crate) const MOST_LOTS: usize = 32;
 
-pub(crate) const MOST_GRANTS: usize = 512;
+/// How many records there are at most.
+pub const MOST_RECORDS: usize = 1024;
 
-const MOST_RECORDS: usize = 1024;
+/// What a question or a grant names beside its people.
+#[derive(Clone, Copy)]
+pub(crate) struct Named {
+    pub(crate) step: Step,
+    pub(crate) word: u64,
+    pub(crate) lot: Lot,
+}
 
 /// Whether arrays of these lengths have room for the grants and the records of a register.
 pub fn check_arrays(grants: usize, records: usize) -> Result<(), Refusal>
     ensures { Checks (short_arrays grants records) (λ _. (512 ≤ grants) × (1024 ≤ records)) result }
 {
-    if grants < MOST_GRANTS {
-        return Err((7, 0));
-    }
-    if records < MOST_RECORDS {
-        return Err((7, 0));
+    if grants < MOST_GRANTS || records < MOST_RECORDS {
+        return Err((Cause::ShortArrays, 0));
     }
     Ok(())
 }
@@ -33,12 +41,7 @@ pub fn check_arrays(grants: usize, records: usize) -> Result<(), Refusal>
 fn has_lot(lots: &[Lot], lot: Lot) -> bool
     ensures { Decides result (Memᴰ lot lots.now) }
 {
-    for other in lots {
-        if other.0 == lot.0 {
-            return true;
-        }
-    }
-    false
+    lots.contains(&lot)
 }
 
 /// Whether a lot may be opened beside these.
@@ -47,13 +50,13 @@ pub(crate) fn check_opening(lots: &[Lot], lot: Lot) -> Result<(), Refusal>
     ensures { Checks (opening lots.now lot) (λ _. length lots.now < 32) result }
 {
     if lot.0 > LAST_LOT {
-        return Err((13, 0));
+        return Err((Cause::LotOutOfRange, 0));
     }
     if has_lot(lots, lot) {
-        return Err((15, 0));
+        return Err((Cause::LotAlreadyOpen, 0));
     }
     if lots.len() == MOST_LOTS {
-        return Err((16, 0));
+        return Err((Cause::TooManyLots, 0));
     }
     Ok(())
 }
@@ -63,38 +66,35 @@ pub(crate) fn check_closing(lots: &[Lot], lot: Lot) -> Result<(), Refusal>
     ensures { Checks (closing lots.now lot) (λ _. Unit {0}) result }
 {
     if lot.0 > LAST_LOT {
-        return Err((13, 0));
+        return Err((Cause::LotOutOfRange, 0));
     }
     if !has_lot(lots, lot) {
-        return Err((14, 0));
+        return Err((Cause::LotNotOpen, 0));
     }
     Ok(())
 }
 
-/// The strength that the word stands for, where the step, the word and the lot, which are given
-/// from this place on, are in order.
+/// The strength that the word stands for, where what is named, from this place on, is in order.
 fn check_naming<S: Strength>(
     book: &Book<S>,
     lots: &[Lot],
     place: usize,
-    step: Step,
-    word: u64,
-    lot: Lot,
+    named: Named,
 ) -> Result<S, Refusal>
     requires { place ≤ 2 }
-    ensures { Checks (naming S.kind (rules book.now) lots.now place step word lot) (λ s. S.kind.of_word word ≡ Some s) result }
+    ensures { Checks (naming S.kind (rules book.now) lots.now place named.step named.word named.lot) (λ s. S.kind.of_word named.word ≡ Some s) result }
 {
-    if step.0 >= book.rows().steps {
-        return Err((11, place));
+    if named.step.0 >= book.rows().steps {
+        return Err((Cause::UnknownStep, place));
     }
-    let Some(strength) = S::from_word(word) else {
-        return Err((12, place + 1));
+    let Some(strength) = S::from_word(named.word) else {
+        return Err((Cause::UnlawfulWord, place + 1));
     };
-    if lot.0 > LAST_LOT {
-        return Err((13, place + 2));
+    if named.lot.0 > LAST_LOT {
+        return Err((Cause::LotOutOfRange, place + 2));
     }
-    if !has_lot(lots, lot) {
-        return Err((14, place + 2));
+    if !has_lot(lots, named.lot) {
+        return Err((Cause::LotNotOpen, place + 2));
     }
     Ok(strength)
 }
@@ -112,16 +112,14 @@ pub(crate) fn check_asking<S: Strength>(
     book: &Book<S>,
     lots: &[Lot],
     person: Person,
-    step: Step,
-    word: u64,
-    lot: Lot,
+    named: Named,
 ) -> Result<S, Refusal>
-    ensures { Checks (asking S.kind (rules book.now) lots.now person step word lot) (λ s. S.kind.of_word word ≡ Some s) result }
+    ensures { Checks (asking S.kind (rules book.now) lots.now person named.step named.word named.lot) (λ s. S.kind.of_word named.word ≡ Some s) result }
 {
     if is_nobody(book, person) {
-        return Err((10, 0));
+        return Err((Cause::UnknownPerson, 0));
     }
-    check_naming(book, lots, 1, step, word, lot)
+    check_naming(book, lots, 1, named)
 }
 
 /// The strength that the word stands for, where what a grant names is in order.
@@ -130,17 +128,15 @@ pub(crate) fn check_passing<S: Strength>(
     lots: &[Lot],
     giver: Person,
     receiver: Person,
-    step: Step,
-    word: u64,
-    lot: Lot,
+    named: Named,
 ) -> Result<S, Refusal>
-    ensures { Checks (passing S.kind (rules book.now) lots.now giver receiver step word lot) (λ s. S.kind.of_word word ≡ Some s) result }
+    ensures { Checks (passing S.kind (rules book.now) lots.now giver receiver named.step named.word named.lot) (λ s. S.kind.of_word named.word ≡ Some s) result }
 {
     if is_nobody(book, giver) {
-        return Err((10, 0));
+        return Err((Cause::UnknownPerson, 0));
     }
     if is_nobody(book, receiver) {
-        return Err((10, 1));
+        return Err((Cause::UnknownPerson, 1));
     }
-    check_naming(book, lots, 2, step, word, lot)
+    check_naming(book, lots, 2, named)
 }

@@ -1,22 +1,70 @@
 // Why a call is refused.
 ghost use Rattle.std.specs.Prelude.{◌≡◌};
+ghost use Rattle.register.specs.Numbers.{number};
 
-use book::Refusal;
+/// What speaks against a call, or against the arrays of a register.
+#[derive(Clone, Copy, Debug, PartialEq, Eq)]
+pub enum Cause {
+    /// An array of the caller's has too few places.
+    ShortArrays = 7,
+    /// There is no such person.
+    UnknownPerson = 10,
+    /// There is no such step.
+    UnknownStep = 11,
+    /// No strength has the word.
+    UnlawfulWord = 12,
+    /// The lot's number is above the last.
+    LotOutOfRange = 13,
+    /// The lot is not open.
+    LotNotOpen = 14,
+    /// The lot is open already.
+    LotAlreadyOpen = 15,
+    /// As many lots are open as may be.
+    TooManyLots = 16,
+    /// The giver is the receiver.
+    GiverIsReceiver = 17,
+    /// No right of the giver backs the grant.
+    NotBacked = 18,
+    /// A bar forbids the grant.
+    Barred = 19,
+    /// An equal grant stands.
+    AlreadyStands = 20,
+    /// As many grants stand as may be.
+    TooManyGrants = 21,
+}
 
-/// The number of the cause, and the place of the argument or the row that it concerns.
-#[derive(Clone, Copy)]
+impl Cause {
+    /// The number by which the panels know it.
+    pub fn number(self) -> u8
+        ensures { result ≡ number self }
+    {
+        self as u8
+    }
+}
+
+/// What a check answers that refuses: the cause, and the place of the argument or the row that it concerns.
+pub type Refusal = (Cause, usize);
+
+/// The cause of a refused call, and the place of the argument or the row that it concerns.
+#[derive(Clone, Copy, Debug, PartialEq, Eq)]
 pub struct RegisterFault {
-    pub number: u8,
+    pub cause: Cause,
     pub place: usize,
 }
 
-impl From<Refusal> for RegisterFault {
-    ghost from_gives = { λ p r. r ≡ record { number = p.0; place = p.1 } };
+impl RegisterFault {
+    /// The number of the cause.
+    pub fn number(self) -> u8
+        ensures { result ≡ number self.cause }
+    {
+        self.cause.number()
+    }
+}
 
-    fn from(refusal: Refusal) -> RegisterFault {
-        RegisterFault {
-            number: refusal.0,
-            place: refusal.1,
-        }
+impl From<Refusal> for RegisterFault {
+    ghost from_gives = { λ p r. r ≡ record { cause = p.0; place = p.1 } };
+
+    fn from((cause, place): Refusal) -> RegisterFault {
+        RegisterFault { cause, place }
     }
 }

@@ -6,9 +6,9 @@ ghost use Rattle.delegation.specs.Rights.{Backed, Forbids};
 ghost use Rattle.register.specs.Causes.{backing, granting, joining};
 ghost use Rattle.register.specs.Refusals.{Checks};
 
-use crate::checks::MOST_GRANTS;
-use book::{Book, Refusal};
-use delegation::{Grant, backed, first_bar, stands};
+use crate::faults::{Cause, Refusal};
+use book::Book;
+use delegation::{Grant, MOST_GRANTS, backed, first_bar, stands};
 use strength::Strength;
 
 /// The place of the first bar that forbids a grant.
@@ -26,11 +26,11 @@ fn check_backing<S: Strength>(
 ) -> Result<(), Refusal>
     ensures { Checks (backing S.kind (rules book.now) grants.now grant) (λ _. Backed S.kind (rules book.now) grants.now grant) result }
 {
-    if grant.giver.0 == grant.receiver.0 {
-        return Err((17, 0));
+    if grant.giver == grant.receiver {
+        return Err((Cause::GiverIsReceiver, 0));
     }
     if !backed(book, grants, grant) {
-        return Err((18, 0));
+        return Err((Cause::NotBacked, 0));
     }
     Ok(())
 }
@@ -45,13 +45,13 @@ fn check_joining<S: Strength>(
     ensures { Checks (joining S.kind (rules book.now) grants.now grant) (λ _. length grants.now < 512) result }
 {
     if let Some(bar) = first_forbidding(book, grant) {
-        return Err((19, bar));
+        return Err((Cause::Barred, bar));
     }
     if stands(grants, grant) {
-        return Err((20, 0));
+        return Err((Cause::AlreadyStands, 0));
     }
     if grants.len() == MOST_GRANTS {
-        return Err((21, 0));
+        return Err((Cause::TooManyGrants, 0));
     }
     Ok(())
 }

@@ -10,8 +10,9 @@ mod records;
 mod register;
 mod table;
 
-pub use calls::{Call, Reply};
-pub use checks::check_arrays;
-pub use faults::RegisterFault;
+pub use calls::Call;
+pub use checks::{MOST_RECORDS, check_arrays};
+pub use delegation::MOST_GRANTS;
+pub use faults::{Cause, Refusal, RegisterFault};
 pub use records::Record;
 pub use register::Register;

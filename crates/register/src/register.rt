@@ -1,28 +1,23 @@
 // What a register holds.
-ghost use Rattle.std.specs.Prelude.{◌≤◌, length};
 
 mod grants;
 mod lots;
 mod making;
 mod sending;
 
+use crate::checks::{MOST_LOTS, MOST_RECORDS};
 use crate::records::Record;
 use crate::table::Table;
+use arrayvec::ArrayVec;
 use book::{Book, Lot};
-use delegation::Grant;
+use delegation::{Grant, MOST_GRANTS};
 
 /// The open lots, the grants that stand on them and what was recorded there, under the rules of a
 /// book. Grants and records lie in arrays of the caller's.
 #[derive(Drop)]
 pub struct Register<'b, 'g, 'r, S> {
     book: &'b Book<S>,
-    grants: Table<'g, Grant<S>>,
-    records: Table<'r, Record>,
-    lots: [Lot; 32],
-    opened: usize,
-    ghost grants_room: { 512 ≤ length grants.places.now },
-    ghost grants_used: { grants.used ≤ 512 },
-    ghost records_room: { 1024 ≤ length records.places.now },
-    ghost records_used: { records.used ≤ 1024 },
-    ghost lots_used: { opened ≤ 32 },
+    grants: Table<'g, Grant<S>, MOST_GRANTS>,
+    records: Table<'r, Record, MOST_RECORDS>,
+    lots: ArrayVec<Lot, MOST_LOTS>,
 }

@@ -1,33 +1,35 @@
--- A text is cut at its first mark.
-use Rattle.std.proofs.Common.{◌≡◌, ℕ, zero, suc, ◌<◌, eqb, List, [], ◌∷◌, length, get_or, take, drop, refl, ap, ◌∙◌, arith}
-use Rattle.std.proofs.lemmas.Bool.{cond-true, cond-false, cond_both, eq-eqb, ne_eqb}
-use Rattle.script.specs.Grammar.{onto, cut, ended, lines}
-
-pub cut_last : (m : ℕ) (bs : List ℕ) → ((k : ℕ) → k < length bs → get_or bs k 0 ≡ m → ⊥) → cut m bs ≡ bs ∷ []
-cut_last m [] h = refl
-cut_last m (b ∷ bs) h =
-    cond-false (eqb b m) _ _ (ne_eqb b m (h 0 (omega arith))) ∙ ap (onto b) (cut_last m bs (λ k lt. h (suc k) (omega arith)))
-
-pub cut_parted : (m : ℕ) (bs : List ℕ) (i : ℕ) → i < length bs → ((k : ℕ) → k < i → get_or bs k 0 ≡ m → ⊥) → get_or bs i 0 ≡ m → cut m bs ≡ take i bs ∷ cut m (drop (suc i) bs)
-cut_parted m [] i lt h e = absurd (omega arith)
-cut_parted m (b ∷ bs) zero lt h e = cond-true (eqb b m) _ _ (eq-eqb b m e)
-cut_parted m (b ∷ bs) (suc i) lt h e =
-    cond-false (eqb b m) _ _ (ne_eqb b m (h 0 (omega arith))) ∙ ap (onto b) (cut_parted m bs i (omega arith) (λ k l. h (suc k) (omega arith)) e)
-
--- a text always has a part
-onto_some : (b : ℕ) (ps : List (List ℕ)) → 0 < length (onto b ps)
-onto_some b [] = omega arith
-onto_some b (p ∷ ps) = omega arith
-
-cut_some : (m : ℕ) (bs : List ℕ) → 0 < length (cut m bs)
-cut_some m [] = omega arith
-cut_some m (b ∷ bs) =
-    cond_both (eqb b m) _ _ (λ (ps : List (List ℕ)). 0 < length ps) (λ _. omega arith) (λ _. onto_some b (cut m bs))
+-- A script is cut at the first byte that ends a line.
+use Rattle.std.proofs.Common.{◌≡◌, ℕ, ◌+◌, ◌<◌, false, eqb, ltb, List, [], ◌∷◌, length, take, drop, Some, None, position, ap, ◌∙◌, ⊎_elim, arith}
+use Rattle.std.specs.List.{All, before_first, after_first, position_or_len}
+use Rattle.std.proofs.lemmas.Bool.{cases_lt, cond-true, lt-ltb}
+use Rattle.std.proofs.lemmas.List.Quantifiers.{position-Some}
+use Rattle.std.proofs.lemmas.List.Splits.{slice_split_none, slice_split_first, length-slice_split}
+use Rattle.std.proofs.lemmas.List.Sums.{position_or_len_is, fails_before_first}
+use Rattle.script.specs.Grammar.{cut, ended, lines}
 
 ended_more : (p : List ℕ) (ps : List (List ℕ)) → 0 < length ps → ended (p ∷ ps) ≡ p ∷ ended ps
 ended_more p [] h = absurd (omega arith)
-ended_more [] (q ∷ ps) h = refl
-ended_more (b ∷ bs) (q ∷ ps) h = refl
+ended_more [] (q ∷ ps) h = λ i. [] ∷ ended (q ∷ ps)
+ended_more (b ∷ bs) (q ∷ ps) h = λ i. (b ∷ bs) ∷ ended (q ∷ ps)
 
-pub lines_more : (p bs : List ℕ) → ended (p ∷ cut 10 bs) ≡ p ∷ lines bs
-lines_more p bs = ended_more p (cut 10 bs) (cut_some 10 bs)
+-- a line that has its end, and the script after it
+pub first_line : (bs : List ℕ) (i : ℕ) → position (λ b. eqb b 10) bs ≡ Some i → lines bs ≡ take i bs ∷ lines (drop (i + 1) bs)
+first_line bs i e =
+    let p = λ (b : ℕ). eqb b 10 in
+    let w = position-Some p bs i 0 e in
+    let at = position_or_len_is p bs i 0 (omega (arith, w.0)) w.2 (λ _. w.1) in
+    let l = length-slice_split p (after_first p bs) in
+    ap ended (slice_split_first p bs 0 (omega (arith, w.0)))
+    ∙ ended_more (before_first p bs) (cut 10 (after_first p bs)) (omega arith)
+    ∙ ap (λ (j : ℕ). take j bs ∷ lines (drop (j + 1) bs)) at
+
+-- the last line, which lacks it
+pub last_line : (bs : List ℕ) → eqb (length bs) 0 ≡ false → position (λ b. eqb b 10) bs ≡ None → lines bs ≡ bs ∷ []
+last_line [] some e = cc
+last_line (b ∷ bs) some e =
+    let p = λ (c : ℕ). eqb c 10 in
+    let all : All (λ c. p c ≡ false) (b ∷ bs) = λ k d l. ⊎_elim
+    (λ lt. let f = cond-true (ltb (position_or_len p (b ∷ bs)) (length (b ∷ bs))) (Some (position_or_len p (b ∷ bs))) None (lt-ltb _ _ lt) in cc)
+    (λ le. fails_before_first p (b ∷ bs) k d (omega arith))
+    (cases_lt (position_or_len p (b ∷ bs)) (length (b ∷ bs))) in
+    ap ended (slice_split_none p (b ∷ bs) all)

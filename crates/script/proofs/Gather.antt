@@ -1,16 +1,18 @@
 -- Gathering numbers one by one gives them all, or the first field that is none.
-use Rattle.std.proofs.Common.{◌≡◌, ℕ, suc, ◌+◌, ◌<◌, ◌≤◌, eqb, ltb, List, [], ◌∷◌, length, get_or, set, Some, None, Ok, Err, Option, Result, sym, refl, ap, ◌∙◌, add-one, arith, lit<, lit≤}
+use Rattle.std.proofs.Common.{◌≡◌, ℕ, suc, ◌+◌, ◌<◌, ◌≤◌, eqb, ltb, List, [], ◌∷◌, length, get_or, drop, set, Some, None, Ok, Err, Option, Result, sym, refl, ap, ◌∙◌, add-one, arith, lit<, lit≤}
 use Rattle.std.proofs.lemmas.Bool.{cond-true, cond-false, eq-eqb, le-ltb}
 use Rattle.std.proofs.lemmas.List.{get_or_append_left}
 use Rattle.std.proofs.lemmas.List.Edits.{sets, sets-eq}
+use Rattle.script.specs.declared.faults.Cause.{Cause}
+use Rattle.script.specs.declared.faults.Cause.TheVariants.{NotANumber}
 use Rattle.script.specs.declared.parsing.Command.{Command}
 use Rattle.script.specs.declared.parsing.Command.TheVariants.{Opening, Closing, Asking, Granting}
 use Rattle.register.specs.declared.calls.Call.{Call}
 use Rattle.register.specs.declared.calls.Call.TheVariants.{Open, Close, Entitled, Grant}
 use Rattle.script.specs.Grammar.{cut, numbered, by_number, gathered, zeros}
-use Rattle.script.specs.Parsed.{arity, called, lettered, first_bad, values, by_fault, by_letter, by_fields, parsed}
+use Rattle.script.specs.Parsed.{arity, called, first, known, lettered, first_bad, values, by_fault, by_letter, by_fields, parsed}
 
-one : (o : Option ℕ) (k : ℕ) (vs : List ℕ) (fs : List (List ℕ)) → ((v : ℕ) → gathered (k + 1) (set vs k v) fs ≡ by_fault (first_bad (k + 1) fs) (sets (set vs k v) (k + 1) (values fs))) → by_number o (Err (42, k)) (λ v. gathered (k + 1) (set vs k v) fs) ≡ by_fault (by_number o (Some k) (λ _. first_bad (k + 1) fs)) (sets (set vs k (by_number o 0 (λ v. v))) (suc k) (values fs))
+one : (o : Option ℕ) (k : ℕ) (vs : List ℕ) (fs : List (List ℕ)) → ((v : ℕ) → gathered (k + 1) (set vs k v) fs ≡ by_fault (first_bad (k + 1) fs) (sets (set vs k v) (k + 1) (values fs))) → by_number o (Err (NotANumber, k)) (λ v. gathered (k + 1) (set vs k v) fs) ≡ by_fault (by_number o (Some k) (λ _. first_bad (k + 1) fs)) (sets (set vs k (by_number o 0 (λ v. v))) (suc k) (values fs))
 one None k vs fs h = refl
 one (Some v) k vs fs h = h v ∙ ap (λ (j : ℕ). by_fault (first_bad (k + 1) fs) (sets (set vs k v) j (values fs))) (add-one k)
 
@@ -43,7 +45,7 @@ called-values k fs e =
     called_same k _ _ (λ j lt. ap (λ (x : List ℕ). get_or x j 0) (sets-eq (values fs) zeros 0 (omega arith)) ∙ get_or_append_left (values fs) _ 0 j (omega arith))
 
 -- what the code does after it has counted the fields
-abbrev pub by_values : Command → Result (List ℕ) (ℕ × ℕ) → Result Call (ℕ × ℕ)
+abbrev pub by_values : Command → Result (List ℕ) (Cause × ℕ) → Result Call (Cause × ℕ)
 by_values k (Ok vs) = Ok (called k vs)
 by_values k (Err e) = Err e
 
@@ -58,10 +60,16 @@ by_steps k fs e =
     ∙ ap (λ (c : Call). by_fault (first_bad 0 fs) c) (called-values k fs e)
 
 -- a line of the right length and letter, with the right number of fields
-pub parsed_steps : (line first : List ℕ) (fs : List (List ℕ)) (k : Command) → length line ≤ 120 → cut 32 line ≡ first ∷ fs → lettered first ≡ Some k → length fs ≡ arity k → parsed line ≡ by_values k (gathered 0 zeros fs)
-parsed_steps line first fs k short e l n =
-    cond-false (ltb 120 (length line)) _ _ (le-ltb 120 (length line) short)
-    ∙ ap by_fields e
-    ∙ ap (λ (o : Option Command). by_letter o fs) l
-    ∙ cond-true (eqb (length fs) (arity k)) _ _ (eq-eqb (length fs) (arity k) n)
-    ∙ sym (by_steps k fs n)
+module _ (line : List ℕ) (k : Command) (short : length line ≤ 120) where
+  fields_steps : (o : Option Command) (fs : List (List ℕ)) → known o ≡ Ok k → length fs ≡ arity k → by_letter o fs ≡ by_values k (gathered 0 zeros fs)
+  fields_steps None fs l n = cc
+  fields_steps (Some j) fs l n =
+      let e : j ≡ k = cc in
+      ap (λ (i : Command). by_letter (Some i) fs) e ∙ cond-true (eqb (length fs) (arity k)) _ _ (eq-eqb (length fs) (arity k) n) ∙ sym (by_steps k fs n)
+
+  parts_steps : (ps : List (List ℕ)) (n : ℕ) → n + 1 ≡ length ps → known (lettered (first ps)) ≡ Ok k → n ≡ arity k → by_fields ps ≡ by_values k (gathered 0 zeros (drop 1 ps))
+  parts_steps [] n m l e = absurd (omega arith)
+  parts_steps (f ∷ fs) n m l e = fields_steps (lettered f) fs l (omega arith)
+
+  pub parsed_steps : (n : ℕ) → n + 1 ≡ length (cut 32 line) → known (lettered (first (cut 32 line))) ≡ Ok k → n ≡ arity k → parsed line ≡ by_values k (gathered 0 zeros (drop 1 (cut 32 line)))
+  parsed_steps n m l e = cond-false (ltb 120 (length line)) _ _ (le-ltb 120 (length line) short) ∙ parts_steps (cut 32 line) n m l e

@@ -1,6 +1,7 @@
 pub mod Cut
 pub mod Number
-pub mod Out
-pub mod Rest
 pub mod Gather
+mod Loans
+pub mod Places
 pub mod Sofar
+pub mod Spoken

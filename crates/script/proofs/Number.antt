@@ -1,33 +1,19 @@
 -- Reading digits one by one.
-use Rattle.std.proofs.Common.{◌≡◌, ℕ, ◌+◌, ◌-◌, ◌*◌, ◌^◌, ◌<◌, ◌≤◌, true, false, List, [], ◌∷◌, length, get_or, drop, Some, None, decimal, refl, ap, ◌∙◌, arith, lit<, pow-add, rules}
+use Rattle.std.proofs.Common.{◌≡◌, ℕ, ◌+◌, ◌-◌, ◌*◌, ◌^◌, ◌<◌, ◌≤◌, true, false, eqb, List, [], ◌∷◌, length, Some, decimal, refl, ap, ◌∙◌, arith, lit<, rules}
 use native.Mathlib.Nat.{pow-le-pow_right}
-use Rattle.std.proofs.lemmas.Bool.{cond-true, cond-false, le-ltb, and_parts}
-use Rattle.std.proofs.lemmas.List.{at_drop_more, at_drop_all}
+use Rattle.std.proofs.lemmas.Bool.{cond-true, cond-false, le-ltb, and_parts, ne_eqb}
 use Rattle.std.specs.Char.{is_ascii_digit}
 use Rattle.std.specs.Str.{all_ascii_digits}
 use Rattle.std.proofs.lemmas.Str.Parse.{IsNumeralModel, numerals_by_fold}
 use Rattle.std.proofs.lemmas.Fmt.{decimal_nonempty, length-decimal-le, digits_decimal, digits_value-decimal}
 use Rattle.script.specs.Grammar.{reads, numbered}
 
-pub numbered_is : (t : List ℕ) → (length t ≡ 0 → ⊥) → length t ≤ 19 → numbered t ≡ reads 0 t
-numbered_is [] some short = absurd (some refl)
+numbered_is : (t : List ℕ) → eqb (length t) 0 ≡ false → length t ≤ 19 → numbered t ≡ reads 0 t
+numbered_is [] some short = cc
 numbered_is (c ∷ cs) some short = cond-false _ _ _ (le-ltb 19 (length (c ∷ cs)) short)
-
-module _ (t : List ℕ) (n i : ℕ) (lt : i < length t) where
-  pub reads_more : is_ascii_digit (get_or t i 0) ≡ true → reads n (drop i t) ≡ reads (10 * n + (get_or t i 0 - 48)) (drop (i + 1) t)
-  reads_more d = at_drop_more (reads n) t i 0 lt ∙ cond-true (is_ascii_digit (get_or t i 0)) _ _ d
-
-  pub reads_stops : is_ascii_digit (get_or t i 0) ≡ false → reads n (drop i t) ≡ None
-  reads_stops d = at_drop_more (reads n) t i 0 lt ∙ cond-false (is_ascii_digit (get_or t i 0)) _ _ d
-
-pub pow_more : (n d i : ℕ) → n < 10 ^ i → d < 10 → 10 * n + d < 10 ^ (i + 1)
-pow_more n d i lt small = omega (arith, pow-add 10 i 1)
 
 pub pow_small : (n i : ℕ) → n < 10 ^ i → i < 19 → n < 10 ^ 18
 pow_small n i lt small = let h : i ≤ 18 = omega arith in let p : 10 ^ i ≤ 10 ^ 18 = pow-le-pow_right {n = 10} (lit< tt) h in omega arith
-
-pub reads_all : (t : List ℕ) (n i : ℕ) → length t ≤ i → reads n (drop i t) ≡ Some n
-reads_all t n i le = at_drop_all (reads n) t i le
 
 pub digit_small : (c : ℕ) → is_ascii_digit c ≡ true → c - 48 < 10
 digit_small c d = search rules
@@ -52,7 +38,7 @@ read_back t n small e =
     let l : length t ≡ length (decimal n) = ap length e in
     let some = decimal_nonempty n fits in
     let short = length-decimal-le 19 n (lit< tt) small fits in
-    numbered_is t (λ z. omega arith) (omega arith)
+    numbered_is t (ne_eqb (length t) 0 (λ z. omega arith)) (omega arith)
     ∙ ap (reads 0) e
     ∙ reads_digits 0 (decimal n) (digits_decimal own n fits)
     ∙ ap Some (digits_value-decimal own n fits)

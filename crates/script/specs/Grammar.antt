@@ -1,22 +1,13 @@
 -- The grammar of a script, on lists of bytes.
-use Rattle.std.specs.Prelude.{ℕ, ◌+◌, ◌-◌, ◌*◌, ◌<◌, cond, List, [], ◌∷◌, length, Some, None, Ok, Err, Option, Result, ◌==◌, nat_lt, slice_set}
-use Rattle.std.specs.Borrow.{Bor}
+use Rattle.std.specs.Prelude.{ℕ, ◌+◌, ◌-◌, ◌*◌, cond, List, [], ◌∷◌, length, Some, None, Ok, Err, Option, Result, ◌==◌, nat_lt, slice_set}
 use Rattle.std.specs.Char.{is_ascii_digit}
-
--- a byte before the first of some parts
-abbrev pub onto : ℕ → List (List ℕ) → List (List ℕ)
-onto b [] = (b ∷ []) ∷ []
-onto b (p ∷ ps) = (b ∷ p) ∷ ps
+use Rattle.std.specs.List.{slice_split}
+use Rattle.script.specs.declared.faults.Cause.{Cause}
+use Rattle.script.specs.declared.faults.Cause.TheVariants.{NotANumber}
 
 -- what stands before, between and after the marks: always one part more than there are marks
 abbrev pub cut : ℕ → List ℕ → List (List ℕ)
-cut m [] = [] ∷ []
-cut m (b ∷ bs) = cond (b == m) ([] ∷ cut m bs) (onto b (cut m bs))
-
--- the parts of a text that is there
-abbrev pub parts : ℕ → Option (Bor (List ℕ)) → List (List ℕ)
-parts m None = []
-parts m (Some t) = cut m t.now
+cut m bs = slice_split (λ b. b == m) bs
 
 -- without a last part that is empty
 abbrev pub ended : List (List ℕ) → List (List ℕ)
@@ -39,11 +30,6 @@ abbrev pub numbered : List ℕ → Option ℕ
 numbered [] = None
 numbered (c ∷ cs) = cond (nat_lt 19 (length (c ∷ cs))) None (reads 0 (c ∷ cs))
 
--- a text that is there is shorter than n bytes
-abbrev pub Short : ℕ → Option (Bor (List ℕ)) → Type 0
-Short n None = Unit {0}
-Short n (Some t) = length t.now < n
-
 abbrev pub zeros : List ℕ
 zeros = 0 ∷ 0 ∷ 0 ∷ 0 ∷ 0 ∷ []
 
@@ -53,6 +39,6 @@ by_number None none some = none
 by_number (Some v) none some = some v
 
 -- the numbers of fields, from place k on, into five places; the first field that is no number refuses
-abbrev pub gathered : ℕ → List ℕ → List (List ℕ) → Result (List ℕ) (ℕ × ℕ)
+abbrev pub gathered : ℕ → List ℕ → List (List ℕ) → Result (List ℕ) (Cause × ℕ)
 gathered k vs [] = Ok vs
-gathered k vs (f ∷ fs) = by_number (numbered f) (Err (42, k)) (λ v. gathered (k + 1) (slice_set vs k v) fs)
+gathered k vs (f ∷ fs) = by_number (numbered f) (Err (NotANumber, k)) (λ v. gathered (k + 1) (slice_set vs k v) fs)

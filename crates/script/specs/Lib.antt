@@ -1,9 +1,7 @@
 pub mod Grammar
 pub mod Fields
 pub mod Parsed
-pub mod Wrote
 pub mod Output
 pub mod Faults
-pub mod Replied
 pub mod Lines
 pub mod Runs

@@ -4,9 +4,10 @@ use Rattle.strength.specs.Kind.{Kind}
 use Rattle.register.specs.Replies.{wording}
 use Rattle.register.specs.Shape.{Called}
 use Rattle.register.specs.declared.calls.Call.{Call}
-use Rattle.register.specs.declared.calls.Reply.{Reply}
-use Rattle.register.specs.declared.calls.Reply.TheVariants.{Answer, Refusal}
+use Rattle.register.specs.declared.faults.RegisterFault.{RegisterFault}
 use Rattle.register.specs.declared.register.Register.{Register}
+use Rattle.script.specs.declared.faults.Cause.{Cause}
+use Rattle.script.specs.declared.faults.Cause.TheVariants.{ShortBuffer}
 use Rattle.script.specs.declared.faults.Fault.{Fault}
 use Rattle.script.specs.declared.faults.Fault.TheVariants.{OfRegister, OfScript}
 use Rattle.script.specs.declared.faults.LineFault.{LineFault}
@@ -15,19 +16,19 @@ use Rattle.script.specs.Faults.{number_of, place_of}
 use Rattle.script.specs.Output.{line_of}
 use Rattle.script.specs.Parsed.{parsed}
 
--- what the script hears of a reply
-abbrev pub heard : Reply → Result ℕ Fault
-heard (Answer n) = Ok n
-heard (Refusal f) = Err (OfRegister f)
+-- what the script hears of what a call is told
+abbrev pub heard : Result ℕ RegisterFault → Result ℕ Fault
+heard (Ok n) = Ok n
+heard (Err f) = Err (OfRegister f)
 
 -- a line that is no call leaves the register as it was; any other is sent to it
-abbrev pub Asked : {S : Type 0} → Kind S → Result Call (ℕ × ℕ) → Register S → Result ℕ Fault → Register S → Type 0
+abbrev pub Asked : {S : Type 0} → Kind S → Result Call (Cause × ℕ) → Register S → Result ℕ Fault → Register S → Type 0
 Asked k (Err f) before r after = (r ≡ Err (OfScript f)) × (after ≡ before)
-Asked k (Ok call) before r after = (e : Reply) × Called k call e before after × (r ≡ heard e)
+Asked k (Ok call) before r after = (e : Result ℕ RegisterFault) × Called k call e before after × (r ≡ heard e)
 
 -- the output line, with the line's number: an answer in the words of its reply, or the refusal of whichever layer
 abbrev pub spoken : ℕ → Result ℕ Fault → List ℕ
-spoken n (Ok answer) = line_of n (wording (Answer answer)).0 (wording (Answer answer)).1
+spoken n (Ok answer) = line_of n (wording (Ok answer)).0 (wording (Ok answer)).1
 spoken n (Err f) = line_of n (codes "no") (number_of f ∷ place_of f ∷ [])
 
 -- the fault that a line met
@@ -42,7 +43,7 @@ pub record Obeyed {S : Type 0} (k : Kind S) (n : ℕ) (line : List ℕ) (before 
   pub written : out' ≡ spoken n reply ++ drop (length (spoken n reply)) out
   pub answer : told ≡ record { length = length (spoken n reply); fault = fault_at n reply }
 
--- refused with 45 exactly where the buffer is too short, and then nothing is changed
+-- refused exactly where the buffer is too short, and then nothing is changed
 abbrev pub Taken : {S : Type 0} → Kind S → ℕ → List ℕ → Register S → List ℕ → Result Told LineFault → Register S → List ℕ → Type 0
 Taken k n line before out (Ok told) after out' = (1200 ≤ length out) × Obeyed k n line before out told after out'
-Taken k n line before out (Err f) after out' = (length out < 1200) × (f ≡ record { line = n; fault = OfScript (45, 0) }) × (after ≡ before) × (out' ≡ out)
+Taken k n line before out (Err f) after out' = (length out < 1200) × (f ≡ record { line = n; fault = OfScript (ShortBuffer, 0) }) × (after ≡ before) × (out' ≡ out)

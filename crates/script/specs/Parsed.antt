@@ -3,6 +3,8 @@ use Rattle.std.specs.Prelude.{ℕ, ◌+◌, cond, List, [], ◌∷◌, length, S
 use Rattle.book.specs.declared.rows.Person.{Person}
 use Rattle.book.specs.declared.rows.Step.{Step}
 use Rattle.book.specs.declared.rows.Lot.{Lot}
+use Rattle.script.specs.declared.faults.Cause.{Cause}
+use Rattle.script.specs.declared.faults.Cause.TheVariants.{UnknownLetter, FieldCount, NotANumber, LongLine}
 use Rattle.script.specs.declared.parsing.Command.{Command}
 use Rattle.script.specs.declared.parsing.Command.TheVariants.{Opening, Closing, Asking, Granting}
 use Rattle.register.specs.declared.calls.Call.{Call}
@@ -22,6 +24,16 @@ abbrev pub lettered : List ℕ → Option Command
 lettered [] = None
 lettered (b ∷ []) = commanded b
 lettered (b ∷ c ∷ bs) = None
+
+-- the command that there is, or the refusal
+abbrev pub known : Option Command → Result Command (Cause × ℕ)
+known None = Err (UnknownLetter, 0)
+known (Some k) = Ok k
+
+-- the first field, of which there always is one
+abbrev pub first : List (List ℕ) → List ℕ
+first [] = []
+first (f ∷ fs) = f
 
 -- fields after the letter
 abbrev pub arity : Command → ℕ
@@ -54,18 +66,18 @@ abbrev pub values : List (List ℕ) → List ℕ
 values [] = []
 values (f ∷ fs) = by_number (numbered f) 0 (λ v. v) ∷ values fs
 
-abbrev pub by_fault : {R : Type 0} → Option ℕ → R → Result R (ℕ × ℕ)
+abbrev pub by_fault : {R : Type 0} → Option ℕ → R → Result R (Cause × ℕ)
 by_fault None r = Ok r
-by_fault (Some p) r = Err (42, p)
+by_fault (Some p) r = Err (NotANumber, p)
 
-abbrev pub by_letter : Option Command → List (List ℕ) → Result Call (ℕ × ℕ)
-by_letter None fs = Err (40, 0)
-by_letter (Some k) fs = cond (length fs == arity k) (by_fault (first_bad 0 fs) (called k (values fs))) (Err (41, length fs))
+abbrev pub by_letter : Option Command → List (List ℕ) → Result Call (Cause × ℕ)
+by_letter None fs = Err (UnknownLetter, 0)
+by_letter (Some k) fs = cond (length fs == arity k) (by_fault (first_bad 0 fs) (called k (values fs))) (Err (FieldCount, length fs))
 
-abbrev pub by_fields : List (List ℕ) → Result Call (ℕ × ℕ)
-by_fields [] = Err (40, 0)
+abbrev pub by_fields : List (List ℕ) → Result Call (Cause × ℕ)
+by_fields [] = Err (UnknownLetter, 0)
 by_fields (f ∷ fs) = by_letter (lettered f) fs
 
--- refused with 43, 40, 41, 42 in this order, or a call
-abbrev pub parsed : List ℕ → Result Call (ℕ × ℕ)
-parsed line = cond (nat_lt 120 (length line)) (Err (43, 120)) (by_fields (cut 32 line))
+-- refused as a long line, for its letter, for how many fields it has, for a field, in this order, or a call
+abbrev pub parsed : List ℕ → Result Call (Cause × ℕ)
+parsed line = cond (nat_lt 120 (length line)) (Err (LongLine, 120)) (by_fields (cut 32 line))

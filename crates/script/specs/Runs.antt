@@ -2,6 +2,7 @@
 use Rattle.std.specs.Prelude.{◌≡◌, ℕ, ◌+◌, ◌<◌, ◌≤◌, ◌⊎◌, List, [], ◌∷◌, ◌++◌, length, Err, Result}
 use Rattle.strength.specs.Kind.{Kind}
 use Rattle.register.specs.declared.register.Register.{Register}
+use Rattle.script.specs.declared.faults.Cause.TheVariants.{LongScript}
 use Rattle.script.specs.declared.faults.Fault.{Fault}
 use Rattle.script.specs.declared.faults.Fault.TheVariants.{OfScript}
 use Rattle.script.specs.Grammar.{lines}
@@ -18,7 +19,7 @@ pub data Ran {S : Type 0} (k : Kind S) : ℕ → Register S → List (List ℕ) 
 pub record TooLong {S : Type 0} (script : List ℕ) (before : Register S) (held : List ℕ) (after : Register S) (held' : List ℕ) : Type 0 where
   pub long : 65536 < length script
   pub same : after ≡ before
-  pub told : held' ≡ held ++ spoken 0 (Err (OfScript (44, 65536)))
+  pub told : held' ≡ held ++ spoken 0 (Err (OfScript (LongScript, 65536)))
 
 -- every line of any other is obeyed
 pub record RanLines {S : Type 0} (k : Kind S) (script : List ℕ) (before : Register S) (held : List ℕ) (after : Register S) (held' : List ℕ) : Type 0 where

@@ -1,21 +1,49 @@
 // Why a line is refused.
 ghost use Rattle.std.specs.Prelude.{◌≡◌};
 ghost use Rattle.script.specs.declared.faults.Fault.TheVariants.{OfRegister, OfScript};
-ghost use Rattle.script.specs.Faults.{number_of, place_of};
+ghost use Rattle.script.specs.Faults.{number, number_of, place_of};
 
-use book::Refusal;
 use register::RegisterFault;
 
+/// What is wrong with a script, a line of it or a buffer. Each cause has the number that is told of it.
+#[derive(Clone, Copy, Debug, PartialEq, Eq)]
+pub enum Cause {
+    /// The letter is missing or unknown.
+    UnknownLetter = 40,
+    /// There are too few fields or too many.
+    FieldCount = 41,
+    /// A field is not 1 to 19 digits.
+    NotANumber = 42,
+    /// The line is too long.
+    LongLine = 43,
+    /// The script is too long.
+    LongScript = 44,
+    /// The buffer for the output line is too short.
+    ShortBuffer = 45,
+}
+
+impl Cause {
+    /// The number that is told of the cause.
+    pub fn number(self) -> u8
+        ensures { result ≡ number self }
+    {
+        self as u8
+    }
+}
+
+/// A cause, and the place of the field or the number of bytes that it concerns.
+pub type Refusal = (Cause, usize);
+
 /// A refusal, whole, with the layer that gave it.
-#[derive(Clone, Copy)]
+#[derive(Clone, Copy, Debug, PartialEq, Eq)]
 pub enum Fault {
-    OfBook(Refusal),
+    OfBook(book::Refusal),
     OfRegister(RegisterFault),
     OfScript(Refusal),
 }
 
 /// A refusal with the line that met it, counted from 1; line 0 is the script as a whole.
-#[derive(Clone, Copy)]
+#[derive(Clone, Copy, Debug, PartialEq, Eq)]
 pub struct LineFault {
     pub line: usize,
     pub fault: Fault,
@@ -42,9 +70,9 @@ impl Fault {
         ensures { result ≡ number_of self }
     {
         match self {
-            Fault::OfBook(refusal) => refusal.0,
-            Fault::OfRegister(fault) => fault.number,
-            Fault::OfScript(refusal) => refusal.0,
+            Fault::OfBook(refusal) => refusal.0.number(),
+            Fault::OfRegister(fault) => fault.number(),
+            Fault::OfScript(refusal) => refusal.0.number(),
         }
     }
 

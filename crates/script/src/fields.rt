@@ -1,13 +1,14 @@
 // The fields of a line.
-ghost use Rattle.std.specs.Prelude.{◌≡◌, ◌+◌, ◌≤◌, length};
-ghost use Rattle.script.specs.Grammar.{parts, gathered, zeros, Short};
+ghost use Rattle.std.specs.Prelude.{◌≡◌, ◌+◌, ◌≤◌, length, drop};
+ghost use Rattle.script.specs.Grammar.{cut, gathered, zeros};
 ghost use Rattle.script.specs.Fields.{field_of};
 
-use crate::cuts::part;
 use crate::digits::number;
+use crate::faults::{Cause, Refusal};
 
+// The project's form of a field: number or word, borrowing the script's bytes, told with its place.
 /// A field of a line: a part of the script itself, with its place after the letter, from 0.
-#[derive(Clone, Copy)]
+#[derive(Clone, Copy, Debug, PartialEq, Eq)]
 pub enum Field<'s> {
     /// 1 to 19 digits, and the number that they write.
     Number {
@@ -22,6 +23,7 @@ pub enum Field<'s> {
     },
 }
 
+/// The field at a place, told apart.
 pub(crate) fn told_apart<'s>(text: &'s [u8], place: usize) -> Field<'s>
     ensures { result ≡ field_of text.entry place }
 {
@@ -31,37 +33,24 @@ pub(crate) fn told_apart<'s>(text: &'s [u8], place: usize) -> Field<'s>
     }
 }
 
-/// How many fields a text has.
-pub(crate) fn count(rest: Option<&[u8]>) -> usize
-    requires { Short 120 rest }
-    ensures { result ≡ length (parts 32 rest.entry) }
+/// How many fields follow the letter of a line: one after each space.
+pub(crate) fn count(line: &[u8]) -> usize
+    ensures { result + 1 ≡ length (cut 32 line.now) }
 {
-    let mut n = 0;
-    let mut left = rest;
-    while let Some(text) = left {
-        let (_, after) = part(text, b' ');
-        left = after;
-        n += 1;
-    }
-    n
+    line.iter().filter(|b| **b == b' ').count()
 }
 
-/// The numbers of at most five fields, or the place of the first that is none.
-pub(crate) fn numbers(rest: Option<&[u8]>) -> Result<[u64; 5], (u8, usize)>
-    requires { length (parts 32 rest) ≤ 5 }
-    ensures { result ≡ gathered 0 zeros (parts 32 rest.entry) }
+/// The numbers of the fields after the letter, at most five, or the place of the first that is none.
+pub(crate) fn numbers(line: &[u8]) -> Result<[u64; 5], Refusal>
+    requires { length (cut 32 line.now) ≤ 6 }
+    ensures { result ≡ gathered 0 zeros (drop 1 (cut 32 line.now)) }
 {
     let mut values = [0u64; 5];
-    let mut k = 0;
-    let mut left = rest;
-    while let Some(text) = left {
-        let (one, after) = part(text, b' ');
-        match told_apart(one, k) {
+    for (k, text) in line.split(|b| *b == b' ').skip(1).enumerate() {
+        match told_apart(text, k) {
             Field::Number { value, .. } => values[k] = value,
-            Field::Word { place, .. } => return Err((42, place)),
+            Field::Word { place, .. } => return Err((Cause::NotANumber, place)),
         }
-        left = after;
-        k += 1;
     }
     Ok(values)
 }

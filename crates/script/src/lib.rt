@@ -10,7 +10,7 @@ mod output;
 mod parsing;
 mod runs;
 
-pub use faults::{Fault, LineFault};
+pub use faults::{Cause, Fault, LineFault, Refusal};
 pub use lines::{LINE_BUFFER, Told, obey_line};
 pub use parsing::parse;
 pub use runs::{LONGEST_SCRIPT, run, tell_refusal};

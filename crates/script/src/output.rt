@@ -1,41 +1,38 @@
-// Output lines, written into the caller's buffer.
-ghost use Rattle.std.specs.Prelude.{◌≡◌, ◌+◌, ◌≤◌, ◌++◌, length, drop};
-ghost use Rattle.std.specs.List.{flat_map};
-ghost use Rattle.script.specs.Wrote.{Wrote};
-ghost use Rattle.script.specs.Output.{line_of, spaced};
+// Output lines.
+ghost use Rattle.std.specs.Prelude.{◌≡◌};
+ghost use Rattle.script.specs.Lines.{spoken};
 
-use crate::digits::{put_number, put_text};
+use crate::faults::Fault;
+use arrayvec::ArrayString;
+use itoa::Buffer;
 
-/// Writes a space and a number.
-fn put_spaced(out: &mut [u8], at: usize, n: u64) -> usize
-    requires { at + length (spaced n) ≤ length out.old }
-    ensures { Wrote out.old at (spaced n) out.new result }
+/// Room for any output line: three numbers of at most 20 digits, a word of two letters, three spaces, the byte at the end.
+const LONGEST_OUTPUT: usize = 66;
+
+/// An output line, in the value itself.
+pub(crate) type OutputLine = ArrayString<LONGEST_OUTPUT>;
+
+/// The output line of a script's line: the line's number, and what is told of its call.
+// The parts are pushed, since `write!` does not promise that a text which fits is written.
+#[tactic(auto, using(crate::proofs::Spoken::ok_line, crate::proofs::Spoken::no_line))]
+pub(crate) fn output_line(number: usize, told: Result<u64, Fault>) -> OutputLine
+    ensures { result.bytes ≡ spoken number told }
 {
-    let end = put_text(out, at, b" ");
-    put_number(out, end, n)
-}
-
-/// Writes a space and a number for each of these.
-fn put_numbers(out: &mut [u8], at: usize, numbers: &[u64]) -> usize
-    requires { at + length (flat_map spaced numbers.now) ≤ length out.old }
-    ensures { Wrote out.old at (flat_map spaced numbers.now) out.new result }
-{
-    let mut end = at;
-    for n in numbers {
-        end = put_spaced(out, end, *n);
+    let mut text = OutputLine::new();
+    let mut digits = Buffer::new();
+    text.push_str(digits.format(number));
+    match told {
+        Ok(answer) => {
+            text.push_str(" ok ");
+            text.push_str(digits.format(answer));
+        }
+        Err(fault) => {
+            text.push_str(" no ");
+            text.push_str(digits.format(fault.number()));
+            text.push_str(" ");
+            text.push_str(digits.format(fault.place()));
+        }
     }
-    end
-}
-
-/// Writes an output line from the front of the buffer, and answers its length.
-pub(crate) fn write_line(out: &mut [u8], line: u64, word: &[u8], numbers: &[u64]) -> usize
-    requires { length (line_of line word.now numbers.now) ≤ length out.old }
-    ensures after { out.new ≡ line_of line word.now numbers.now ++ drop (length (line_of line word.now numbers.now)) out.old }
-    ensures len { result ≡ length (line_of line word.now numbers.now) }
-{
-    let end = put_number(out, 0, line);
-    let end = put_text(out, end, b" ");
-    let end = put_text(out, end, word);
-    let end = put_numbers(out, end, numbers);
-    put_text(out, end, b"\n")
+    text.push_str("\n");
+    text
 }

@@ -1,8 +1,9 @@
 // From a line to a call.
 ghost use Rattle.std.specs.Prelude.{◌≡◌};
-ghost use Rattle.script.specs.Parsed.{arity, called, commanded, lettered as letter_of_lem, parsed};
+ghost use Rattle.script.specs.Grammar.{cut};
+ghost use Rattle.script.specs.Parsed.{arity, called, commanded, first, known, lettered, parsed};
 
-use crate::cuts::part;
+use crate::faults::{Cause, Refusal};
 use crate::fields::{count, numbers};
 use book::{Lot, Person, Step};
 use register::Call;
@@ -11,7 +12,7 @@ use register::Call;
 const LONGEST_LINE: usize = 120;
 
 /// What the first field of a line asks for.
-#[derive(Clone, Copy)]
+#[derive(Clone, Copy, Debug, PartialEq, Eq)]
 pub enum Command {
     Opening,
     Closing,
@@ -19,77 +20,81 @@ pub enum Command {
     Granting,
 }
 
-fn command_of(letter: char) -> Option<Command>
-    ensures { result ≡ commanded letter }
-{
-    match letter {
-        'o' => Some(Command::Opening),
-        'c' => Some(Command::Closing),
-        'm' => Some(Command::Asking),
-        'g' => Some(Command::Granting),
-        _ => None,
+// The project's form of a command: the first byte as a char, matched against char literals.
+impl TryFrom<char> for Command {
+    type Error = Refusal;
+
+    ghost try_from_gives = { λ letter r. r ≡ known (commanded letter) };
+
+    fn try_from(letter: char) -> Result<Command, Refusal> {
+        match letter {
+            'o' => Ok(Command::Opening),
+            'c' => Ok(Command::Closing),
+            'm' => Ok(Command::Asking),
+            'g' => Ok(Command::Granting),
+            _ => Err((Cause::UnknownLetter, 0)),
+        }
     }
 }
 
-/// The command of a first field: exactly one known letter.
-fn lettered(first: &[u8]) -> Option<Command>
-    ensures { result ≡ letter_of_lem first.now }
+/// The command of a line: its first field is exactly one known letter.
+fn command_of(line: &[u8]) -> Result<Command, Refusal>
+    ensures { result ≡ known (lettered (first (cut 32 line.now))) }
 {
-    match first {
-        [letter] => command_of(char::from(*letter)),
-        _ => None,
+    match line {
+        [letter] | [letter, b' ', ..] => Command::try_from(char::from(*letter)),
+        _ => Err((Cause::UnknownLetter, 0)),
     }
 }
 
-/// How many fields follow the letter.
-fn fields_due(command: Command) -> usize
-    ensures { result ≡ arity command }
-{
-    match command {
-        Command::Opening => 1,
-        Command::Closing => 1,
-        Command::Asking => 4,
-        Command::Granting => 5,
+impl Command {
+    /// How many fields follow the letter.
+    fn fields_due(self) -> usize
+        ensures { result ≡ arity self }
+    {
+        match self {
+            Command::Opening | Command::Closing => 1,
+            Command::Asking => 4,
+            Command::Granting => 5,
+        }
+    }
+
+    /// The call of these numbers.
+    fn call(self, v: [u64; 5]) -> Call
+        ensures { result ≡ called self v }
+    {
+        match self {
+            Command::Opening => Call::Open { lot: Lot(v[0]) },
+            Command::Closing => Call::Close { lot: Lot(v[0]) },
+            Command::Asking => Call::Entitled {
+                person: Person(v[0]),
+                step: Step(v[1]),
+                word: v[2],
+                lot: Lot(v[3]),
+            },
+            Command::Granting => Call::Grant {
+                giver: Person(v[0]),
+                receiver: Person(v[1]),
+                step: Step(v[2]),
+                word: v[3],
+                lot: Lot(v[4]),
+            },
+        }
     }
 }
 
-fn call_of(command: Command, v: [u64; 5]) -> Call
-    ensures { result ≡ called command v }
-{
-    match command {
-        Command::Opening => Call::Open { lot: Lot(v[0]) },
-        Command::Closing => Call::Close { lot: Lot(v[0]) },
-        Command::Asking => Call::Entitled {
-            person: Person(v[0]),
-            step: Step(v[1]),
-            word: v[2],
-            lot: Lot(v[3]),
-        },
-        Command::Granting => Call::Grant {
-            giver: Person(v[0]),
-            receiver: Person(v[1]),
-            step: Step(v[2]),
-            word: v[3],
-            lot: Lot(v[4]),
-        },
-    }
-}
-
-/// The call that a line writes, or the number and place of its refusal.
-pub fn parse(line: &[u8]) -> Result<Call, (u8, usize)>
+/// The call that a line writes, or its refusal.
+pub fn parse(line: &[u8]) -> Result<Call, Refusal>
     ensures { result ≡ parsed line.now }
 {
     if line.len() > LONGEST_LINE {
-        return Err((43, LONGEST_LINE));
+        return Err((Cause::LongLine, LONGEST_LINE));
     }
-    let (first, rest) = part(line, b' ');
-    let Some(command) = lettered(first) else {
-        return Err((40, 0));
-    };
-    let n = count(rest);
-    if n != fields_due(command) {
-        return Err((41, n));
+    let command = command_of(line)?;
+    let n = count(line);
+    if n != command.fields_due() {
+        return Err((Cause::FieldCount, n));
     }
-    let values = numbers(rest)?;
-    Ok(call_of(command, values))
+    let values = numbers(line)?;
+    Ok(command.call(values))
 }

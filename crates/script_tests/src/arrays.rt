@@ -1,22 +1,25 @@
 // Arrays that are too short, and buffers that are.
 
-use crate::support::{
-    EXAMPLE, MOST_GRANTS, MOST_RECORDS, book_of, filled, some_grant, some_record,
-};
-use register::{Register, check_arrays};
+use crate::support::{EXAMPLE, book_of, some_grant, some_record};
+use register::{MOST_GRANTS, MOST_RECORDS, Register, check_arrays};
 use script::{LineFault, Told, obey_line};
 use std::process::Abort;
 use std::test::Fail;
 use strength::{Count, Marks, Reach};
 
+/// What the lengths of two arrays are told, by number.
+fn told(grants: usize, records: usize) -> Result<(), (u8, usize)> {
+    check_arrays(grants, records).map_err(|(cause, place)| (cause.number(), place))
+}
+
 #[test]
 fn lengths_of_arrays(rt: HostRuntime) {
-    assert_eq!(rt; check_arrays(512, 1024), Ok(()));
-    assert_eq!(rt; check_arrays(513, 1025), Ok(()));
-    assert_eq!(rt; check_arrays(511, 1024), Err((7, 0)));
-    assert_eq!(rt; check_arrays(512, 1023), Err((7, 0)));
-    assert_eq!(rt; check_arrays(1024, 512), Err((7, 0)));
-    assert_eq!(rt; check_arrays(0, 0), Err((7, 0)));
+    assert_eq!(rt; told(512, 1024), Ok(()));
+    assert_eq!(rt; told(513, 1025), Ok(()));
+    assert_eq!(rt; told(511, 1024), Err((7, 0)));
+    assert_eq!(rt; told(512, 1023), Err((7, 0)));
+    assert_eq!(rt; told(1024, 512), Err((7, 0)));
+    assert_eq!(rt; told(0, 0), Err((7, 0)));
 }
 
 /// Holds a line to the text that it has to leave at the front of the buffer.
@@ -59,8 +62,8 @@ fn short_buffers(rt: HostRuntime) -> Result<(), Fail> {
         return Err(Fail::new("no reach"));
     };
     let book = book_of::<Reach>(heap, &EXAMPLE)?;
-    let mut grants = filled(heap, some_grant(filler), MOST_GRANTS)?;
-    let mut records = filled(heap, some_record(), MOST_RECORDS)?;
+    let mut grants = vec![in heap; some_grant(filler); MOST_GRANTS]?;
+    let mut records = vec![in heap; some_record(); MOST_RECORDS]?;
     let mut register = Register::new(&book, &mut grants, &mut records);
     let mut buffer = [7u8; 1200];
     let mut short = [7u8; 1199];

@@ -2,6 +2,7 @@
 
 use crate::support::{EXAMPLE, check_answers};
 use std::alloc::{AllocError, Global};
+use std::iter;
 use std::process::Abort;
 use std::test::Fail;
 use strength::Reach;
@@ -106,9 +107,7 @@ fn ends_of_lines(rt: HostRuntime) -> Result<(), Fail> {
 /// A text, and then a letter so often.
 fn padded(heap: Global, text: &str, letter: char, count: usize) -> Result<String, AllocError> {
     let mut line = String::from_str(heap, text)?;
-    for _ in 0..count {
-        line.push(letter)?;
-    }
+    line.extend(iter::repeat_n(letter, count))?;
     Ok(line)
 }
 

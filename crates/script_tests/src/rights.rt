@@ -17,11 +17,9 @@ fn check_script(
     words[HELD] = held;
     let mut script = String::new(heap);
     let mut expected = String::new(heap);
-    let mut number = 0u64;
-    for (line, told) in lines {
-        number = number.saturating_add(1);
+    for (i, (line, told)) in lines.iter().enumerate() {
         write!(script, "{line}\n")?;
-        write!(expected, "{number} {told}\n")?;
+        write!(expected, "{} {told}\n", i + 1)?;
     }
     check_answers::<Reach>(rt, heap, &words, &script, &expected)
 }

@@ -1,9 +1,8 @@
 // The book that most tests use, and how a script is held to the answers that are due.
-ghost use Rattle.std.specs.Prelude.{◌≡◌, IfOk, vec_len};
 
 use book::{Book, BookFault, Lot, Person, Step, read};
 use delegation::{Grant, Right};
-use register::{Record, Register};
+use register::{MOST_GRANTS, MOST_RECORDS, Record, Register};
 use script::run;
 use std::alloc::{AllocError, Global};
 use std::process::Abort;
@@ -13,25 +12,20 @@ use strength::Strength;
 /// A book of the press line with 4 people, 2 posts and 3 steps. Persons 0, 1 and 2 have mark 0. Person 0 plays post 0,
 /// and person 3 plays post 1. Step 0 covers steps 1 and 2. Post 0 holds step 0 at count 2. Nobody who plays post 1 is
 /// given step 2 at count 1 or more. Steps 1 and 2 clash.
+// Each crate of tests has an example of its own, and what makes bytes of it.
 pub(crate) const EXAMPLE: [u64; 26] = [
     4, 2, 3, 2, 2, 1, 1, 1, 1, 1, 1, 0, 0, 3, 0, 1, 0, 0, 1, 2, 0, 33_554_432, 66, 16_777_216, 1, 2,
 ];
-
-/// How many places the arrays of a register have.
-pub(crate) const MOST_GRANTS: usize = 512;
-
-pub(crate) const MOST_RECORDS: usize = 1024;
 
 /// Where the example has the strength of its hold.
 pub(crate) const HELD: usize = 21;
 
 /// The bytes of these words, least byte first.
 fn bytes(heap: Global, words: &[u64]) -> Result<Vec<u8>, AllocError> {
-    let mut bytes = Vec::new(heap);
-    for word in words {
-        bytes.extend_from_slice(&word.to_le_bytes())?;
-    }
-    Ok(bytes)
+    words
+        .iter()
+        .flat_map(|word| word.to_le_bytes())
+        .collect(heap)
 }
 
 /// The book of these words, which has to be sound.
@@ -39,22 +33,11 @@ pub(crate) fn book_of<S: Strength>(heap: Global, words: &[u64]) -> Result<Book<S
     let bytes = bytes(heap, words)?;
     match read::<S>(heap, &bytes) {
         Ok(book) => Ok(book),
-        Err(BookFault::Refused((number, place))) => {
-            Err(Fail::new(format_args!("book refused: {number} at {place}")))
+        Err(BookFault::Refused((cause, place))) => {
+            Err(Fail::new(format_args!("book refused: {cause:?} at {place}")))
         }
         Err(BookFault::Memory) => Err(Fail::new("no memory")),
     }
-}
-
-/// So many copies of a value.
-pub(crate) fn filled<T: Copy>(heap: Global, value: T, count: usize) -> Result<Vec<T>, AllocError>
-    ensures { IfOk result (λ v. vec_len v ≡ count) }
-{
-    let mut values = Vec::new(heap);
-    for _i in 0..count {
-        values.push(value)?;
-    }
-    Ok(values)
 }
 
 /// A grant to fill an array with.
@@ -87,8 +70,8 @@ pub(crate) fn answers<S: Strength>(
     filler: S,
 ) -> Result<Vec<u8>, Fail> {
     let book = book_of::<S>(heap, words)?;
-    let mut grants = filled(heap, some_grant(filler), MOST_GRANTS)?;
-    let mut records = filled(heap, some_record(), MOST_RECORDS)?;
+    let mut grants = vec![in heap; some_grant(filler); MOST_GRANTS]?;
+    let mut records = vec![in heap; some_record(); MOST_RECORDS]?;
     let mut output = Vec::new(heap);
     let mut register = Register::new(&book, &mut grants, &mut records);
     run(&mut register, script, &mut output)?;

@@ -1,10 +1,9 @@
 -- Reaches of equal count and mask are equal, and so bands of equal ends: what a ghost field states has one proof.
 use Rattle.std.specs.Prelude.{◌≡◌, ℕ, Bool, true, false, Some, refl}
 use Rattle.std.proofs.Math.Bool.{Bool-set}
-use Rattle.std.proofs.Common.{ap, arith}
+use Rattle.std.proofs.Common.{ap}
 use mathlib.Core.HLevel.{is_prop→PathP}
 use denote.Struct.Props.{props}
-use Rattle.std.proofs.lemmas.Bool.{false≢true}
 use Rattle.strength.specs.declared.values.Reach.{Reach}
 use Rattle.strength.specs.declared.values.Band.{Band}
 use Rattle.strength.specs.Lawful.{LawfulReach, LawfulBand, when}
@@ -32,9 +31,9 @@ same_band a b p q = λ i. record {
 -- a test that is passed lets the same through, however that is known
 pub when_true : {X : Type 0} (b : Bool) (f : b ≡ true → X) (e : b ≡ true) → when b f ≡ Some (f e)
 when_true true f e = ap (λ t. Some (f t)) (Bool-set true true refl e)
-when_true false f e = absurd (false≢true e)
+when_true false f e = absurd (cc)
 
 -- what came through passed the test
 pub when_some : {X : Type 0} (b : Bool) (f : b ≡ true → X) (x : X) → when b f ≡ Some x → (e : b ≡ true) × (f e ≡ x)
 when_some true f x e = (refl, cc)
-when_some false f x e = let z : ◌≡◌ {A = ℕ} 0 1 = cc in absurd (omega arith)
+when_some false f x e = absurd (cc)

@@ -1,17 +1,13 @@
 -- The test of the 24 bits decides whether a mask is within marks, and orders the masks.
-use Rattle.std.specs.Prelude.{◌≡◌, ℕ, zero, suc, ◌+◌, ◌*◌, ◌/◌, ◌%◌, ◌^◌, ◌<◌, Bool, true, leb, Decides, nat_le, refl}
-use Rattle.std.proofs.Common.{sym, ap, ap₂, ◌∙◌, arith, mod-eq_of_lt, one-add}
-use Rattle.std.proofs.Math.Nat.{mod-one, zero-div}
-use Rattle.std.proofs.lemmas.Nat.{mod_below, mod-pow-add}
+use Rattle.std.specs.Prelude.{◌≡◌, ℕ, ◌^◌, ◌<◌, Bool, true, leb, Decides, nat_le, refl}
+use Rattle.std.proofs.Common.{arith}
+use Rattle.std.proofs.lemmas.Nat.Bits.{bit_at-lt, bit_at-zero, same_from_bits_below}
 use Rattle.std.proofs.lemmas.Bool.Decides.{Decides-below_and, same_from_decides, nat_tests}
 use Rattle.strength.specs.Masks.{bit, Within, within, lowest_within}
 
-bit_small : (m k : ℕ) → bit m k < 2
-bit_small m k = mod_below (m / 2 ^ k) 2 (omega arith)
-
 one_bit : (m s k : ℕ) → Decides (nat_le (bit m k) (bit s k)) (bit m k ≡ 1 → bit s k ≡ 1)
 one_bit m s k =
-    let b = bit_small m k in let c = bit_small s k in
+    let b = bit_at-lt m k in let c = bit_at-lt s k in
     (λ t e. grind (arith, nat_tests), λ f. grind (arith, nat_tests))
 
 decides_within : (m s : ℕ) → Decides (within m s) (Within m s)
@@ -28,23 +24,15 @@ within_refl m = (decides_within m m).1 (λ k h e. e)
 pub within_trans : (a b c : ℕ) → within a b ≡ true → within b c ≡ true → within a c ≡ true
 within_trans a b c p q = (decides_within a c).1 (λ k h e. (decides_within b c).0 q k h ((decides_within a b).0 p k h e))
 
-same_low : (a b n : ℕ) → ((k : ℕ) → k < n → bit a k ≡ bit b k) → a % 2 ^ n ≡ b % 2 ^ n
-same_low a b zero f = mod-one a ∙ sym (mod-one b)
-same_low a b (suc n) f =
-    let low : a % 2 ^ n ≡ b % 2 ^ n = same_low a b n (λ k h. f k (omega arith)) in
-    let top : bit a n ≡ bit b n = f n (omega arith) in
-    let split : (x : ℕ) → x % 2 ^ suc n ≡ bit x n * 2 ^ n + x % 2 ^ n = λ x. ap (λ j. x % 2 ^ j) (sym (one-add n)) ∙ mod-pow-add x 1 n in
-    split a ∙ ap₂ (λ x y. x * 2 ^ n + y) top low ∙ sym (split b)
-
 pub within_antisym : (a b : ℕ) → a < 2 ^ 24 → b < 2 ^ 24 → within a b ≡ true → within b a ≡ true → a ≡ b
-within_antisym a b ha hb p q = sym (mod-eq_of_lt ha) ∙ same_low a b 24 same_bit ∙ mod-eq_of_lt hb
+within_antisym a b ha hb p q = same_from_bits_below 24 a b ha hb same_bit
   where
     same_bit : (k : ℕ) → k < 24 → bit a k ≡ bit b k
     same_bit k h =
         let there = (decides_within a b).0 p k h in let back = (decides_within b a).0 q k h in
-        let x = bit_small a k in let y = bit_small b k in
+        let x = bit_at-lt a k in let y = bit_at-lt b k in
         grind arith
 
 -- the empty mask is within any marks
 pub within_none : (s : ℕ) → within 0 s ≡ true
-within_none s = (decides_within 0 s).1 (λ k h e. absurd (omega (arith, e, ap (λ x. x % 2) (zero-div (2 ^ k)))))
+within_none s = (decides_within 0 s).1 (λ k h e. absurd (omega (arith, e, bit_at-zero k)))

@@ -1,6 +1,6 @@
 -- A pair keeps the laws of a kind, since its halves do.
-use Rattle.std.specs.Prelude.{◌≡◌, ℕ, ◌+◌, ◌*◌, ◌/◌, ◌%◌, ◌^◌, true, Some, None, Option}
-use Rattle.std.proofs.Common.{ap, ap₂, ◌∙◌, arith}
+use Rattle.std.specs.Prelude.{◌≡◌, ◌+◌, ◌*◌, ◌/◌, ◌%◌, ◌^◌, true, Some, None, Option}
+use Rattle.std.proofs.Common.{ap, ap₂, ◌∙◌}
 use Rattle.std.proofs.lemmas.Nat.{shr_high, mod_low, shr_split}
 use Rattle.std.proofs.lemmas.Bool.{and_parts, and_from}
 use Rattle.strength.specs.declared.values.Pair.{Pair}
@@ -13,8 +13,8 @@ both_some {P} {Q} (Some a) (Some b) x e =
     let y : Pair P Q = record { first = a; second = b } in
     let s : y ≡ x = cc in
     (ap (λ (z : Pair P Q). Some z.first) s, ap (λ (z : Pair P Q). Some z.second) s)
-both_some (Some a) None x e = let z : ◌≡◌ {A = ℕ} 0 1 = cc in absurd (omega arith)
-both_some None p x e = let z : ◌≡◌ {A = ℕ} 0 1 = cc in absurd (omega arith)
+both_some (Some a) None x e = absurd (cc)
+both_some None p x e = absurd (cc)
 
 module _ {P Q : Type 0} (j : Kind P) (k : Kind Q) where
   parts : (a b : Pair P Q) → (pair_kind j k).at_least a b ≡ true → (j.at_least a.first b.first ≡ true) × (k.at_least a.second b.second ≡ true)

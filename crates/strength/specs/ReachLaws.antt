@@ -1,8 +1,9 @@
 -- Reach keeps the laws of a kind.
-use Rattle.std.specs.Prelude.{◌≡◌, ℕ, ◌/◌, ◌%◌, ◌^◌, Bool, true, false, cond, Some, None, refl}
+use Rattle.std.specs.Prelude.{◌≡◌, ℕ, ◌/◌, ◌%◌, ◌^◌, true, Some, None}
 use Rattle.std.proofs.Common.{sym, ap, ◌∙◌, arith}
 use Rattle.std.proofs.lemmas.Nat.{shr_high, mod_low, shr_split}
 use Rattle.std.proofs.lemmas.Bool.{cond-true}
+use Rattle.std.proofs.lemmas.Option.{cond_some}
 use Rattle.std.proofs.lemmas.Bool.Decides.{nat_tests}
 use Rattle.strength.specs.declared.values.Reach.{Reach}
 use Rattle.strength.specs.Kind.{Reflexive, Transitive, Antisymmetric, Decreasing, Monotone, ReadsBack, KeepsWord}
@@ -24,16 +25,11 @@ made_of r c m e =
     let w = when_some (is_reach c m) _ r e in
     (sym (ap (λ (x : Reach). x.count.0) w.1), sym (ap (λ (x : Reach). x.mask.0) w.1))
 
--- a strength that came out of a test passed it
-if_some : {X : Type 0} (t : Bool) (x y : X) → cond t (Some x) None ≡ Some y → (t ≡ true) × (x ≡ y)
-if_some true x y e = (refl, cc)
-if_some false x y e = let z : ◌≡◌ {A = ℕ} 0 1 = cc in absurd (omega arith)
-
 lowered_less : (a : Reach) → reach_at_least a (lowered_reach a) ≡ true
 lowered_less a = let w = within_refl a.mask.0 in grind (arith, nat_tests)
 
 pub reach_decreasing : Decreasing reach_kind
-reach_decreasing a m h b e = ap (reach_at_least a) (sym (if_some (passes a m) (lowered_reach a) b e).1) ∙ lowered_less a
+reach_decreasing a m h b e = ap (reach_at_least a) (sym (cond_some (passes a m) (lowered_reach a) b e).1) ∙ lowered_less a
 
 lowered_monotone : (a b : Reach) (m : ℕ) → reach_at_least a b ≡ true → passes b m ≡ true → reach_at_least (lowered_reach a) (lowered_reach b) ≡ true
 lowered_monotone a b m p t = grind (arith, nat_tests)
@@ -43,7 +39,7 @@ passes_monotone a b m p t = let w = within_trans a.mask.0 b.mask.0 m in grind (a
 
 pub reach_monotone : Monotone reach_kind
 reach_monotone a b m h c p e =
-    let t = if_some (passes b m) (lowered_reach b) c e in (
+    let t = cond_some (passes b m) (lowered_reach b) c e in (
       lowered_reach a,
       cond-true (passes a m) (Some (lowered_reach a)) None (passes_monotone a b m p t.0),
       ap (reach_at_least (lowered_reach a)) (sym t.1) ∙ lowered_monotone a b m p t.0,

@@ -1,6 +1,7 @@
 // What a kind of strength offers, and the laws that it keeps.
 ghost use Rattle.strength.specs.Kind.{Kind, Reflexive, Transitive, Antisymmetric, Decreasing, Monotone, ReadsBack, KeepsWord, Bounded, Short};
 ghost use Rattle.std.specs.Prelude.{◌≡◌};
+ghost use Rattle.std.proofs.Common.{arith};
 
 use super::values::Marks;
 
@@ -56,6 +57,7 @@ pub trait Strength: Copy {
 
 /// A kind with words of 32 bits, so that two of them make a pair with a word of 64 bits. The
 /// methods and laws are those of `Strength`, but for the last law.
+// They stand here again, since a rule of the project wants a half's word, order and passing on in a trait of its own.
 pub trait Half: Copy {
     ghost half: { Kind Self };
 
@@ -98,4 +100,42 @@ pub trait Half: Copy {
 
     /// A word fits into 32 bits.
     ghost short: { Short half };
+}
+
+/// Each half is a kind by itself, so a new half owes only the laws of `Half`.
+impl<H: Half> Strength for H {
+    ghost kind = { H.half };
+
+    ghost reflexive = { H.reflexive };
+
+    ghost transitive = { H.transitive };
+
+    ghost antisymmetric = { H.antisymmetric };
+
+    ghost decreasing = { H.decreasing };
+
+    ghost monotone = { H.monotone };
+
+    ghost reads_back = { H.reads_back };
+
+    ghost keeps_word = { H.keeps_word };
+
+    ghost bounded = { λ a. omega (arith, H.short a) };
+
+    fn at_least(self, other: H) -> bool {
+        self.half_at_least(other)
+    }
+
+    fn passed_on(self, marks: Marks) -> Option<H> {
+        self.half_passed_on(marks)
+    }
+
+    fn word(self) -> u64 {
+        u64::from(self.half_word())
+    }
+
+    fn from_word(word: u64) -> Option<H> {
+        let word = u32::try_from(word).ok()?;
+        H::from_half_word(word)
+    }
 }

@@ -18,6 +18,7 @@ const HIGHEST_TENTHS: u16 = 600;
 pub struct Marks(pub u32);
 
 /// How often a right may still be passed on; 255 is without limit.
+// A number with 255 for no limit, and no enum, since the rules and the words of books say it so.
 #[derive(Clone, Copy, Debug, PartialEq, Eq)]
 pub struct Count(pub u8);
 

@@ -3,21 +3,21 @@ ghost use Rattle.std.specs.Prelude.{◌≡◌, ◌+◌, ◌*◌, ◌^◌, ◌<�
 ghost use Rattle.std.specs.Result.{result_err};
 ghost use Rattle.std.specs.List.{zip};
 ghost use Rattle.book.specs.Causes.{cause, clash_cause, first, or_else};
-ghost use Rattle.book.specs.Form.{Small, columns, in_clashes, in_columns, last_at};
+ghost use Rattle.book.specs.Form.{columns, in_clashes, in_columns};
 ghost use Rattle.book.specs.Books.{Makes, rows_refusal};
 ghost use Rattle.book.specs.Rules.{said, sizes_in, words_in};
 
 use super::Book;
-use crate::checks::{Refusal, check_clashes, check_column};
-use crate::faults::BookFault;
-use crate::form::{Sizes, Test};
-use crate::judging::check_form;
+use crate::checks::{check_clashes, check_column};
+use crate::faults::{BookFault, Refusal};
+use crate::form::Test;
 use crate::layout::Row;
+use crate::plan::Plan;
 use crate::rows::{Clash, Cover, Entry, Play, Rows};
 use crate::sizes::{SIZES, columns_of};
-use crate::words::{Firsts, MarkWords, Seconds};
+use crate::words::{First, Second, Whole};
 use std::alloc::Global;
-use strength::Strength;
+use strength::{Marks, Strength};
 
 /// Whether the two columns of a table pass their tests; the first begins at this place.
 fn check_table<S: Strength, R: Row>(
@@ -29,9 +29,8 @@ fn check_table<S: Strength, R: Row>(
     requires { place + 2 * length rows.now < 2 ^ 64 }
     ensures { result_err result ≡ or_else (first (cause S.kind one) place (map R.layout.first_word rows.now)) (first (cause S.kind other) (place + length rows.now) (map R.layout.second_word rows.now)) }
 {
-    let firsts = check_column::<S, Firsts<R>>(Firsts(rows), place, one);
-    let seconds = check_column::<S, Seconds<R>>(Seconds(rows), place + rows.len(), other);
-    firsts.and(seconds)
+    check_column::<S, R, First>(rows, place, one)?;
+    check_column::<S, R, Second>(rows, place + rows.len(), other)
 }
 
 /// Whether the two columns of the clashes pass, which begin at these places.
@@ -46,30 +45,25 @@ fn check_clash_table<S: Strength>(
     requires others { others_at + length rows.now < 2 ^ 64 }
     ensures { result_err result ≡ or_else (first (cause S.kind test) ones_at (map (λ p. p.one.0) rows.now)) (first (clash_cause steps) others_at (zip (map (λ p. p.one.0) rows.now) (map (λ p. p.other.0) rows.now))) }
 {
-    let ones = check_column::<S, Firsts<Clash>>(Firsts(rows), ones_at, test);
-    let others = check_clashes(Firsts(rows), Seconds(rows), others_at, steps);
-    ones.and(others)
+    check_column::<S, Clash, First>(rows, ones_at, test)?;
+    check_clashes::<Clash, Clash, First, Second>(rows, rows, others_at, steps)
 }
 
-/// Whether all words of rows pass, which have these sizes and this place of the last column.
-fn check_tables<S: Strength>(rows: &Rows<S>, sizes: Sizes, last: usize) -> Result<(), Refusal>
-    requires sizes { sizes ≡ sizes_in (said rows.now) }
-    requires small { Small sizes }
-    requires last { last ≡ last_at sizes }
-    ensures { result_err result ≡ or_else (in_columns S.kind (columns sizes) 8 (drop 8 (words_in S.kind (said rows.now)))) (in_clashes sizes (words_in S.kind (said rows.now))) }
+/// Whether all words of rows pass, which have this plan.
+fn check_tables<S: Strength>(rows: &Rows<S>, plan: Plan) -> Result<(), Refusal>
+    requires { plan.sizes ≡ sizes_in (said rows.now) }
+    ensures { result_err result ≡ or_else (in_columns S.kind (columns plan.sizes) 8 (drop 8 (words_in S.kind (said rows.now)))) (in_clashes plan.sizes (words_in S.kind (said rows.now))) }
 {
-    let tests = columns_of(sizes);
-    let plays_at = SIZES + sizes.people as usize;
-    let covers_at = plays_at + 2 * sizes.plays as usize;
-    let holds_at = covers_at + 2 * sizes.covers as usize;
-    let bars_at = holds_at + 2 * sizes.holds as usize;
-    let ones_at = bars_at + 2 * sizes.bars as usize;
-    let marks = check_column::<S, MarkWords>(MarkWords(&rows.marks), SIZES, tests[0].test);
-    let plays = check_table::<S, Play>(&rows.plays, plays_at, tests[1].test, tests[2].test);
-    let covers = check_table::<S, Cover>(&rows.covers, covers_at, tests[3].test, tests[4].test);
-    let holds = check_table::<S, Entry<S>>(&rows.holds, holds_at, tests[5].test, tests[6].test);
-    let bars = check_table::<S, Entry<S>>(&rows.bars, bars_at, tests[7].test, tests[8].test);
-    let clashes = check_clash_table::<S>(&rows.clashes, ones_at, last, tests[9].test, sizes.steps);
+    let tests = columns_of(plan.sizes);
+    let places = plan.places();
+    let last = plan.last();
+    let steps = plan.sizes.steps;
+    let marks = check_column::<S, Marks, Whole>(&rows.marks, SIZES, tests[0].test);
+    let plays = check_table::<S, Play>(&rows.plays, places.plays, tests[1].test, tests[2].test);
+    let covers = check_table::<S, Cover>(&rows.covers, places.covers, tests[3].test, tests[4].test);
+    let holds = check_table::<S, Entry<S>>(&rows.holds, places.holds, tests[5].test, tests[6].test);
+    let bars = check_table::<S, Entry<S>>(&rows.bars, places.bars, tests[7].test, tests[8].test);
+    let clashes = check_clash_table::<S>(&rows.clashes, places.clashes, last, tests[9].test, steps);
     marks
         .and(plays)
         .and(covers)
@@ -82,9 +76,8 @@ fn check_tables<S: Strength>(rows: &Rows<S>, sizes: Sizes, last: usize) -> Resul
 fn check_rows<S: Strength>(rows: &Rows<S>) -> Result<(), Refusal>
     ensures { result_err result ≡ rows_refusal S.kind (said rows.now) }
 {
-    let sizes = rows.sizes();
-    let last = check_form(sizes)?;
-    check_tables(rows, sizes, last)
+    let plan = rows.sizes().plan()?;
+    check_tables(rows, plan)
 }
 
 impl<S: Strength> Book<S> {

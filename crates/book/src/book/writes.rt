@@ -1,21 +1,20 @@
 // Writing a book.
-ghost use Rattle.std.specs.Prelude.{◌≡◌, ◌+◌, ◌*◌, ◌<◌, ◌≤◌, length};
+ghost use Rattle.std.specs.Prelude.{◌≡◌, ◌+◌, ◌*◌, ◌<◌, ◌≤◌, map, length};
 ghost use Rattle.book.specs.Words.{bytes_of, spelled};
 ghost use Rattle.book.specs.Layouts.{flat};
-ghost use Rattle.book.specs.Form.{Small, due};
 ghost use Rattle.book.specs.Rules.{said, sizes_in};
 ghost use Rattle.book.specs.Over.{over};
 ghost use Rattle.book.specs.Books.{Rereads, Writes, rules};
 
 use super::Book;
-use crate::checks::Refusal;
+use crate::faults::{Cause, Refusal};
 use crate::form::Sizes;
-use crate::judging::last_column;
 use crate::layout::Row;
+use crate::plan::Plan;
 use crate::rows::Rows;
 use crate::sizes::SIZES;
-use crate::words::{Firsts, MarkWords, Numbers, Seconds, Words};
-use strength::Strength;
+use crate::words::{First, Second, Whole, WordOf};
+use strength::{Marks, Strength};
 
 /// Writes a word at this place.
 fn put_word(out: &mut [u8], place: usize, word: u64)
@@ -26,12 +25,12 @@ fn put_word(out: &mut [u8], place: usize, word: u64)
 }
 
 /// Writes a column of words from this place on.
-fn put_column<W: Words>(out: &mut [u8], place: usize, column: W)
-    requires { place + 8 * length (W.listed column) ≤ length out.old }
-    ensures { out.new ≡ over out.old place (spelled (W.listed column)) }
+fn put_column<R: Copy, W: WordOf<R>>(out: &mut [u8], place: usize, rows: &[R])
+    requires { place + 8 * length rows.now ≤ length out.old }
+    ensures { out.new ≡ over out.old place (spelled (map W.in_row rows.now)) }
 {
-    for i in 0..column.count() {
-        put_word(out, place + 8 * i, column.word(i));
+    for (i, row) in rows.iter().enumerate() {
+        put_word(out, place + 8 * i, W::in_row(*row));
     }
 }
 
@@ -42,17 +41,9 @@ fn put_table<R: Row>(out: &mut [u8], place: usize, rows: &[R]) -> usize
     ensures value { result ≡ place + 16 * length rows.now }
 {
     let middle = place + 8 * rows.len();
-    put_column(out, place, Firsts(rows));
-    put_column(out, middle, Seconds(rows));
+    put_column::<R, First>(out, place, rows);
+    put_column::<R, Second>(out, middle, rows);
     middle + 8 * rows.len()
-}
-
-/// How many bytes a book with these sizes has.
-fn due_length(sizes: Sizes) -> usize
-    requires { Small sizes }
-    ensures { result ≡ due sizes }
-{
-    8 * (last_column(sizes) + sizes.clashes as usize)
 }
 
 impl<S> Rows<S> {
@@ -73,19 +64,29 @@ impl<S> Rows<S> {
     }
 }
 
+impl<S> Book<S> {
+    fn plan(&self) -> Plan
+        ensures { result.sizes ≡ sizes_in (rules self.now) }
+    {
+        Plan {
+            sizes: self.rows.sizes(),
+        }
+    }
+}
+
 /// Writes a book, and answers its length; a buffer that is too short is refused, and nothing is written.
 pub fn write<S: Strength>(book: &Book<S>, out: &mut [u8]) -> Result<usize, Refusal>
     ensures writes { Writes S.kind (rules book.now) out.old out.new result }
     ensures rereads { Rereads S.kind book.now }
 {
-    let sizes = book.rows.sizes();
-    let due = due_length(sizes);
+    let plan = book.plan();
+    let due = plan.due();
     if out.len() < due {
-        return Err((8, due));
+        return Err((Cause::ShortBuffer, due));
     }
-    put_column(out, 0, Numbers(&sizes.listed()));
-    put_column(out, 8 * SIZES, MarkWords(&book.rows.marks));
-    let place = put_table(out, 8 * (SIZES + sizes.people as usize), &book.rows.plays);
+    put_column::<u64, Whole>(out, 0, &plan.sizes.listed());
+    put_column::<Marks, Whole>(out, 8 * SIZES, &book.rows.marks);
+    let place = put_table(out, 8 * plan.places().plays, &book.rows.plays);
     let place = put_table(out, place, &book.rows.covers);
     let place = put_table(out, place, &book.rows.holds);
     let place = put_table(out, place, &book.rows.bars);

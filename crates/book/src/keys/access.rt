@@ -37,6 +37,7 @@ impl Key {
         self.post.0 * LIMIT + self.step.0
     }
 
+    // As a kind of strength tells a strength from its word; a TryFrom would need an error that says no more.
     /// The key that has this word, if there is one.
     pub fn from_word(word: u64) -> Option<Key>
         ensures { result ≡ key_of_word word }

@@ -6,7 +6,8 @@ ghost use Rattle.register.specs.State.{empty};
 use super::Register;
 use crate::records::Record;
 use crate::table::Table;
-use book::{Book, Lot};
+use arrayvec::ArrayVec;
+use book::Book;
 use delegation::Grant;
 use strength::Strength;
 
@@ -38,8 +39,7 @@ impl<'b, 'g, 'r, S: Strength> Register<'b, 'g, 'r, S> {
             book,
             grants,
             records,
-            lots: [Lot(0); 32],
-            opened: 0,
+            lots: ArrayVec::new(),
         }
     }
 }

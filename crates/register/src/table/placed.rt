@@ -1,8 +1,8 @@
 // Rows that lie on lots.
-ghost use Rattle.std.specs.Prelude.{◌≡◌, ◌-◌, ◌≤◌, ◌++◌, length, take, drop, Decides, ◌≢◌};
+ghost use Rattle.std.specs.Prelude.{◌≡◌, ◌≤◌, ◌++◌, length, take, drop, Decides, ◌≢◌};
 ghost use Rattle.book.specs.declared.rows.Lot.{Lot as TheLot};
 ghost use Rattle.delegation.specs.Found.{Filtered};
-ghost use Rattle.register.specs.Shape.{rows, Places};
+ghost use Rattle.register.specs.Shape.{rows, SameArray};
 
 use super::Table;
 use crate::records::Record;
@@ -16,14 +16,6 @@ pub(crate) trait Placed: Copy {
 
     fn lot(self) -> Lot
         ensures { result ≡ whose self };
-}
-
-impl Placed for Lot {
-    ghost whose = { λ l. l };
-
-    fn lot(self) -> Lot {
-        self
-    }
 }
 
 impl<S: Strength> Placed for Grant<S> {
@@ -46,18 +38,19 @@ impl Placed for Record {
 fn lies_on<T: Placed>(row: T, lot: Lot) -> bool
     ensures { Decides result (T.whose row ≡ lot) }
 {
-    row.lot().0 == lot.0
+    row.lot() == lot
 }
 
 /// Moves those of the first `used` rows that do not lie on the lot to the front, in their order,
 /// and answers how many they are.
-pub(crate) fn sweep_lot<T: Placed>(places: &mut [T], used: usize, lot: Lot) -> usize
+fn sweep_lot<T: Placed>(places: &mut [T], used: usize, lot: Lot) -> usize
     requires { used ≤ length places.old }
     ensures few { result ≤ used }
     ensures rows { Filtered (λ x. T.whose x ≢ lot) (take used places.old) (take result places.new) }
     ensures places { places.new ≡ take result places.new ++ drop result places.old }
 {
     let mut left = 0;
+    // By index: the loop reads and writes one slice, and swaps would change the places behind the rows.
     for i in 0..used {
         let row = places[i];
         if !lies_on(row, lot) {
@@ -68,18 +61,12 @@ pub(crate) fn sweep_lot<T: Placed>(places: &mut [T], used: usize, lot: Lot) -> u
     left
 }
 
-impl<'a, T: Placed> Table<'a, T> {
+impl<'a, T: Placed, const MOST: usize> Table<'a, T, MOST> {
     /// Drops the rows that lie on the lot.
     pub(crate) fn drop_lot(&mut self, lot: Lot)
-        requires { self.old.used ≤ length self.old.places.now }
         ensures rows { Filtered (λ x. T.whose x ≢ lot) (rows self.old) (rows self.new) }
-        ensures places { Places self.old self.new }
-        ensures used { self.new.used ≤ self.old.used }
-        ensures long { length self.new.places.now ≡ length self.old.places.now }
-        ensures lender { self.new.places.ghost_name ≡ self.old.places.ghost_name }
+        ensures array { SameArray self.old self.new }
     {
-        let used = self.used;
-        let left = sweep_lot(self.places, used, lot);
-        self.used = left;
+        self.used = sweep_lot(self.places, self.used, lot);
     }
 }

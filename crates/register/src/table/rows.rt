@@ -1,45 +1,25 @@
 // Reading rows and adding one.
 ghost use Rattle.std.specs.Prelude.{◌≡◌, ◌+◌, ◌<◌, ◌≤◌, [], ◌∷◌, ◌++◌, length, take, slice_set};
-ghost use Rattle.register.specs.Shape.{rows, Places};
+ghost use Rattle.register.specs.Shape.{rows, SameArray};
 
 use super::Table;
 
-/// The first `used` places.
-pub(crate) fn cut<T>(places: &[T], used: usize) -> &[T]
-    requires { used ≤ length places.now }
-    ensures { result.now ≡ take used places.now }
-{
-    &places[0..used]
-}
-
-fn put<T: Copy>(places: &mut [T], at: usize, row: T)
-    requires { at < length places.old }
-    ensures { places.new ≡ slice_set places.old at row }
-{
-    places[at] = row;
-}
-
-impl<'a, T: Copy> Table<'a, T> {
+impl<'a, T: Copy, const MOST: usize> Table<'a, T, MOST> {
     /// The rows.
     pub(crate) fn rows(&self) -> &[T]
-        requires { self.now.used ≤ length self.now.places.now }
         ensures { result.now ≡ rows self.now }
     {
-        let used = self.used;
-        cut(self.places, used)
+        &self.places[..self.used]
     }
 
     /// One row more.
+    #[tactic(auto, using(crate::proofs::Sweeps::pushed))]
     pub(crate) fn push(&mut self, row: T)
-        requires { self.old.used < length self.old.places.now }
+        requires { self.old.used < MOST }
         ensures rows { rows self.new ≡ rows self.old ++ (row ∷ []) }
-        ensures places { Places self.old self.new }
-        ensures used { self.new.used ≡ self.old.used + 1 }
-        ensures long { length self.new.places.now ≡ length self.old.places.now }
-        ensures lender { self.new.places.ghost_name ≡ self.old.places.ghost_name }
+        ensures array { SameArray self.old self.new }
     {
-        let at = self.used;
-        put(self.places, at, row);
-        self.used = at + 1;
+        self.places[self.used] = row;
+        self.used += 1;
     }
 }

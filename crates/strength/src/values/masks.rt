@@ -1,6 +1,6 @@
 // The test of a mask.
-ghost use Rattle.std.specs.Prelude.{Decides};
-ghost use Rattle.strength.specs.Masks.{Within};
+ghost use Rattle.std.specs.Prelude.{◌≡◌, ℕ, ◌<◌, ◌≤◌, Decides};
+ghost use Rattle.strength.specs.Masks.{bit, Within};
 
 use super::Marks;
 
@@ -8,15 +8,18 @@ use super::Marks;
 const MARK_BITS: u32 = 24;
 
 impl Marks {
+    /// Whether each of the lowest bits, so many, that the mask has is among these marks.
+    fn contains_lowest(self, mask: Marks, bits: u32) -> bool
+        requires { bits ≤ 32 }
+        ensures { Decides result ((k : ℕ) → k < bits → bit mask.0 k ≡ 1 → bit self.0 k ≡ 1) }
+    {
+        (0..bits).all(|k| (mask.0 >> k) % 2 == 0 || (self.0 >> k) % 2 == 1)
+    }
+
     /// Whether each of the 24 bits that the mask has is among these marks.
     pub fn contains(self, mask: Marks) -> bool
         ensures { Decides result (Within mask.0 self.0) }
     {
-        for k in 0..MARK_BITS {
-            if (mask.0 >> k) % 2 == 1 && (self.0 >> k) % 2 == 0 {
-                return false;
-            }
-        }
-        true
+        self.contains_lowest(mask, MARK_BITS)
     }
 }

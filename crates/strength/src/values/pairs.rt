@@ -39,7 +39,7 @@ impl<P: Half, Q: Half> Strength for Pair<P, Q> {
     }
 
     fn word(self) -> u64 {
-        self.second.half_word() as u64 * HALF_LIMIT + self.first.half_word() as u64
+        u64::from(self.second.half_word()) * HALF_LIMIT + u64::from(self.first.half_word())
     }
 
     fn from_word(word: u64) -> Option<Pair<P, Q>> {

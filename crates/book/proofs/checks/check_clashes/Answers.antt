@@ -1,32 +1,38 @@
-use Rattle.std.proofs.Common.{◌<◌, ◌≤◌, length, sym, ◌∙◌, arith}
+use Rattle.std.proofs.Common.{sym, ◌∙◌}
+use Rattle.std.specs.List.{zip}
+use Rattle.std.proofs.lemmas.Iterator.{YieldsList-from_slice, YieldsList-from_zip}
+use Rattle.std.proofs.lemmas.Iterator.Consumers.{YieldsList-from_enumerate, YieldsList-turn, YieldsList-end}
+use Rattle.std.proofs.lemmas.List.{length_push}
 use Rattle.book.specs.Causes.{clash_cause}
-use Rattle.book.proofs.FirstCauses.{pair_more, pair_here, pair_all}
+use Rattle.book.proofs.FirstCauses.{first-pairs, turn_bad, turn_fine, turn_end}
 use Rattle.book.proofs.checks.check_clashes.Goals as goal
+
+pub returns-in-Some-judge_clash : goal.returns-in-Some-judge_clash
+returns-in-Some-judge_clash g c =
+    let v = g.V.WordOf.in_row in
+    let w = g.W.WordOf.in_row in
+    let y = YieldsList-from_enumerate (YieldsList-from_zip (YieldsList-from_slice c.args.ones.now cc) (YieldsList-from_slice c.args.others.now cc)) cc in
+    let t = YieldsList-turn y c.loop-i.yielded _ c.loop-i.yielded_by _ c.next.new.self (c.in-Some.i, (c.in-Some.one, c.in-Some.other)) c.in-Some.is c.next.ensures.steps in
+    let e = c.judge_clash.ensures ∙ (λ i. clash_cause c.args.steps (c.in_row.ensures i, c.in_row-in-loop-i.ensures i)) in
+    turn_bad (λ p. clash_cause c.args.steps (v p.0, w p.1)) c.args.place (zip c.args.ones.now c.args.others.now) _ _ _ t (sym e ∙ c.in-Some-judge_clash.is) c.loop-i.invariant.0
+    ∙ first-pairs (clash_cause c.args.steps) v w c.args.place c.args.ones.now c.args.others.now
 
 pub loop-i-preserved : goal.loop-i-preserved
 loop-i-preserved g c =
-    let us = g.A.Words.listed c.args.ones in
-    let vs = g.B.Words.listed c.args.others in
-    let b : c.loop-i.i < length vs = omega (arith, c.count-i-end.ensures) in
-    let a : c.loop-i.i < length us = omega arith in (
-      pair_more (clash_cause c.args.steps) c.args.place us vs c.loop-i.i 0 0 a b c.word.ensures c.word-in-loop-i.ensures (sym c.judge_clash-fault.ensures ∙ c.if-fault-ne0.false)
-          ∙ c.loop-i.invariant.0,
+    let v = g.V.WordOf.in_row in
+    let w = g.W.WordOf.in_row in
+    let y = YieldsList-from_enumerate (YieldsList-from_zip (YieldsList-from_slice c.args.ones.now cc) (YieldsList-from_slice c.args.others.now cc)) cc in
+    let t = YieldsList-turn y c.loop-i.yielded _ c.loop-i.yielded_by _ c.next.new.self (c.in-Some.i, (c.in-Some.one, c.in-Some.other)) c.in-Some.is c.next.ensures.steps in
+    let e = c.judge_clash.ensures ∙ (λ i. clash_cause c.args.steps (c.in_row.ensures i, c.in_row-in-loop-i.ensures i)) in (
+      turn_fine (λ p. clash_cause c.args.steps (v p.0, w p.1)) c.args.place (zip c.args.ones.now c.args.others.now) _ _ _ t (sym e ∙ c.in_default.is) c.loop-i.invariant.0 (length_push c.loop-i.yielded _),
       c.loop-i.invariant.1,
-      c.loop-i.invariant.2,
     )
-
-pub returns-then-fault-ne0 : goal.returns-then-fault-ne0
-returns-then-fault-ne0 g c =
-    let us = g.A.Words.listed c.args.ones in
-    let vs = g.B.Words.listed c.args.others in
-    let b : c.loop-i.i < length vs = omega (arith, c.count-i-end.ensures) in
-    let a : c.loop-i.i < length us = omega arith in
-    sym (pair_here (clash_cause c.args.steps) c.args.place us vs c.loop-i.i 0 0 a b c.word.ensures c.word-in-loop-i.ensures c.judge_clash-fault.ensures c.if-fault-ne0.true)
-    ∙ c.loop-i.invariant.0
 
 pub returns : goal.returns
 returns g c =
-    let us = g.A.Words.listed c.args.ones in
-    let vs = g.B.Words.listed c.args.others in
-    let a : length us ≤ c.loop-i.i = omega (arith, c.count-i-end.ensures) in
-    sym (pair_all (clash_cause c.args.steps) _ us vs c.loop-i.i a) ∙ c.loop-i.invariant.0
+    let v = g.V.WordOf.in_row in
+    let w = g.W.WordOf.in_row in
+    let y = YieldsList-from_enumerate (YieldsList-from_zip (YieldsList-from_slice c.args.ones.now cc) (YieldsList-from_slice c.args.others.now cc)) cc in
+    let t = YieldsList-end y c.loop-i.yielded _ c.loop-i.yielded_by _ c.next.new.self c.in-None.is c.next.ensures.steps in
+    turn_end (λ p. clash_cause c.args.steps (v p.0, w p.1)) c.args.place (zip c.args.ones.now c.args.others.now) _ t.1 c.loop-i.invariant.0
+    ∙ first-pairs (clash_cause c.args.steps) v w c.args.place c.args.ones.now c.args.others.now

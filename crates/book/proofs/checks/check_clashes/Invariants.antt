@@ -5,6 +5,6 @@ use Rattle.book.proofs.checks.check_clashes.Given as goal
 
 abbrev pub invariant-loop-i : goal.invariant-loop-i
 invariant-loop-i g l =
-    (first (clash_cause l.steps) (l.place + l.i) (drop l.i (zip (g.A.Words.listed l.ones) (g.B.Words.listed l.others))) ≡ first (clash_cause l.steps) l.place (zip (g.A.Words.listed l.ones) (g.B.Words.listed l.others)))
-    × (length (g.A.Words.listed l.ones) ≡ length (g.B.Words.listed l.others))
-    × (l.place + length (g.B.Words.listed l.others) < 2 ^ 64)
+    (first (λ p. clash_cause l.steps (g.V.WordOf.in_row p.0, g.W.WordOf.in_row p.1)) (l.place + length l.yielded) (drop (length l.yielded) (zip l.ones l.others))
+    ≡ first (λ p. clash_cause l.steps (g.V.WordOf.in_row p.0, g.W.WordOf.in_row p.1)) l.place (zip l.ones l.others))
+    × (l.place + length l.others < 2 ^ 64)

@@ -4,5 +4,5 @@ use Rattle.book.proofs.checks.check_column.Given as goal
 
 abbrev pub invariant-loop-i : goal.invariant-loop-i
 invariant-loop-i g l =
-    (first (cause g.S.Strength.kind l.test) (l.place + l.i) (drop l.i (g.W.Words.listed l.column)) ≡ first (cause g.S.Strength.kind l.test) l.place (g.W.Words.listed l.column))
-    × (l.place + length (g.W.Words.listed l.column) < 2 ^ 64)
+    (first (λ r. cause g.S.Strength.kind l.test (g.W.WordOf.in_row r)) (l.place + l.i) (drop l.i l.rows) ≡ first (λ r. cause g.S.Strength.kind l.test (g.W.WordOf.in_row r)) l.place l.rows)
+    × (l.place + length l.rows < 2 ^ 64)

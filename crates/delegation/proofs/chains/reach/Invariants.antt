@@ -6,6 +6,6 @@ use Rattle.delegation.proofs.chains.reach.Given as goal
 
 abbrev pub invariant-loop-i : goal.invariant-loop-i
 invariant-loop-i g l =
-    Reached g.S.Strength.kind (rules l.book) l.source l.grants l.gone l.i l.initial.seen l.seen
-    × Queued (length l.grants) l.seen l.queue l.count
-    × Longer l.start l.initial.queue l.count l.queue
+    Reached g.S.Strength.kind (rules l.book) l.earlier l.grants l.gone l.i l.initial.seen l.seen
+    × Queued (length l.grants) l.seen l.queue.items
+    × Longer l.initial.queue.items l.queue.items

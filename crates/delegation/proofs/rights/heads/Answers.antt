@@ -1,42 +1,15 @@
--- A row that heads the grant is found, or none does.
-use Rattle.std.proofs.Common.{List, vec_items, sym, refl, ap, ◌∙◌, subst}
-use Rattle.std.proofs.lemmas.Bool.{false≢true}
-use Rattle.std.proofs.lemmas.Bool.Decides.{not_from_Decides}
-use Rattle.book.specs.Books.{rules}
-use Rattle.book.specs.declared.rows.Entry.{Entry}
-use Rattle.delegation.specs.Found.{SomeOf}
-use Rattle.delegation.specs.Passes.{HeadRow}
-use Rattle.delegation.proofs.Judged.{row_heads, heads_row}
-use Rattle.delegation.proofs.Searches.{none_yet, none_more, found_in, none_in}
+-- The test is whether the right backs the grant.
+use Rattle.std.proofs.Common.{rules}
+use borrow.Author.Tests.{tests}
+use Rattle.std.proofs.lemmas.Bool.Decides.{Decides-like}
+use Rattle.book.specs.Books.{rules as rules_of}
+use Rattle.delegation.specs.Rights.{Backs}
+use Rattle.delegation.specs.declared.grants.Right.{Right}
+use Rattle.delegation.proofs.Judged.{decides_found}
 use Rattle.delegation.proofs.rights.heads.Goals as goal
-
-pub loop-row-init : goal.loop-row-init
-loop-row-init g c = none_yet _ c.as_slice-holds.result.now
-
-pub loop-row-preserved : goal.loop-row-preserved
-loop-row-preserved g c =
-    let x = c.row-item in
-    none_more _ c.as_slice-holds.result.now c.loop-row.row-index x.result c.loop-row-test.true x.is c.loop-row.invariant
-    (not_from_Decides c.row_heads.result c.row_heads.ensures c.if-row_heads.false)
-
-pub returns-then-row_heads : goal.returns-then-row_heads
-returns-then-row_heads g c =
-    let k = g.S.Strength.kind in
-    let r = rules c.args.book.now in
-    let P = HeadRow k r c.args.grant in
-    let x = c.row-item in
-    let same = c.as_slice-holds.ensures.value ∙ ap (λ rows. vec_items rows.holds) c.rows.ensures in
-    let Q = λ (rows : List (Entry g.row.S.Denot)). SomeOf P rows in
-    let f = found_in P c.as_slice-holds.result.now c.loop-row.row-index x.result c.loop-row-test.true x.is (c.row_heads.ensures.0 c.if-row_heads.true) in
-    (λ _. row_heads k r c.args.grant (subst Q same f), λ _. refl)
 
 pub returns : goal.returns
 returns g c =
-    let k = g.S.Strength.kind in
-    let r = rules c.args.book.now in
-    let P = HeadRow k r c.args.grant in
-    let same = c.as_slice-holds.ensures.value ∙ ap (λ rows. vec_items rows.holds) c.rows.ensures in
-    let Q = λ (rows : List (Entry g.row.S.Denot)). SomeOf P rows in (
-      λ e. absurd (false≢true e),
-      λ h. absurd (none_in P c.as_slice-holds.result.now c.loop-row.row-index c.loop-row-test.false c.loop-row.invariant (subst Q (sym same) (heads_row k r c.args.grant h))),
-    )
+    Decides-like c.holds_some.result (λ f. (f.0, (f.1, f.2))) (λ h. (h.0, h.1.0, h.1.1))
+    (decides_found (λ (p : Right g.row.S.Denot). Backs g.S.Strength.kind (rules_of c.args.book.now) p c.args.grant) c.holds_some.result
+    (λ p h. search (rules, tests)) (λ p h. search (rules, tests)) c.holds_some.ensures)

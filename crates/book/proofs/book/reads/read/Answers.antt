@@ -8,10 +8,10 @@ use Rattle.book.proofs.book.reads.read.Goals as goal
 
 pub returns : goal.returns
 returns g c =
-    let d = c.in_ok-sizes.ensures.sizes.2 in
+    let d = c.in_ok-plan.ensures.plan.1 in
     record {
       reads = (
-        sym c.in_ok-sizes.ensures.fault,
+        sym c.in_ok-plan.ensures.fault,
         ap (λ (r : Rows g.row.S.Denot). spelled (words_in g.S.Strength.kind (said r))) c.in_ok-book.ensures
             ∙ ap spelled (c.in_ok-rows.ensures.1 ∙ ap (map word_of) c.as_chunks.ensures.front)
             ∙ spelled_chunks (length c.args.bytes.now / 8) c.args.bytes.now (omega arith) (λ i. omega (arith, c.type_inv.bytes i)),
@@ -19,8 +19,8 @@ returns g c =
       first = first-cause g.S.Strength.kind c.args.bytes.now;
     }
 
-pub returns-in_err-sizes : goal.returns-in_err-sizes
-returns-in_err-sizes g c = record { reads = search rules; first = first-cause g.S.Strength.kind c.args.bytes.now }
+pub returns-in_err-plan : goal.returns-in_err-plan
+returns-in_err-plan g c = record { reads = search rules; first = first-cause g.S.Strength.kind c.args.bytes.now }
 
 pub returns-in_err-rows : goal.returns-in_err-rows
 returns-in_err-rows g c = record { reads = search rules; first = first-cause g.S.Strength.kind c.args.bytes.now }

@@ -1,5 +1,7 @@
 use Rattle.std.proofs.Common.{◌+◌, ◌-◌, ◌<◌, is_some, sym, ◌∙◌, ap₂, arith}
+use Rattle.std.proofs.lemmas.List.{length-map}
 use Rattle.std.proofs.lemmas.Result.{IfOk-weaker}
+use Rattle.book.specs.Words.{word_of}
 use Rattle.book.proofs.Columns.{part_at, part_length, part_words}
 use Rattle.book.proofs.book.reads.read_table.Goals as goal
 
@@ -8,8 +10,8 @@ read_rows-requires g c =
     let w = c.args.words.now in
     let p = c.args.place in
     let n = c.args.size in
-    let a = part_length p (p + n - p) n w (omega arith) (omega arith) in
-    let b = part_length (p + n) (p + n + n - (p + n)) n w (omega arith) (omega arith) in
+    let a = sym (length-map _ word_of) ∙ part_length p (p + n - p) n w (omega arith) (omega arith) in
+    let b = sym (length-map _ word_of) ∙ part_length (p + n) (p + n + n - (p + n)) n w (omega arith) (omega arith) in
     record {
       same = a ∙ sym b;
       lawful = λ j h.

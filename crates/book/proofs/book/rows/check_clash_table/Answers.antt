@@ -1,17 +1,11 @@
-use Rattle.std.proofs.Common.{sym, ap, ◌∙◌, arith}
-use Rattle.std.specs.Result.{result_err}
-use Rattle.std.proofs.lemmas.List.{length-map}
-use Rattle.book.proofs.RowChecks.{and_then}
+use Rattle.std.proofs.lemmas.Result.{err_from_is_err_and}
+use Rattle.book.proofs.RowChecks.{or_found, or_passed}
 use Rattle.book.proofs.book.rows.check_clash_table.Goals as goal
 
-pub check_column-ones-requires : goal.check_column-ones-requires
-check_column-ones-requires g c = let n = length-map c.args.rows.now (λ p. p.one.0) in omega arith
-
-pub check_clashes-others-requires : goal.check_clashes-others-requires
-check_clashes-others-requires g c =
-    let m = length-map c.args.rows.now (λ p. p.one.0) in
-    let n = length-map c.args.rows.now (λ p. p.other.0) in
-    record { same = m ∙ sym n; fits = omega arith }
+pub returns-in_err-check_column : goal.returns-in_err-check_column
+returns-in_err-check_column g c =
+    let p = err_from_is_err_and c.from_residual.result c.from_residual.ensures.1 in
+    rw (p.1, p.2) (or_found _ _ c.in_err-check_column.ensures)
 
 pub returns : goal.returns
-returns g c = ap result_err c.and.ensures ∙ and_then c.check_column-ones.result c.check_clashes-others.result c.check_column-ones.ensures c.check_clashes-others.ensures
+returns g c = or_passed _ _ c.in_ok-check_column.ensures c.check_clashes.ensures

@@ -1,14 +1,11 @@
-use Rattle.std.proofs.Common.{ap, ◌∙◌, arith}
-use Rattle.std.specs.Result.{result_err}
-use Rattle.std.proofs.lemmas.List.{length-map}
-use Rattle.book.proofs.RowChecks.{and_then}
+use Rattle.std.proofs.lemmas.Result.{err_from_is_err_and}
+use Rattle.book.proofs.RowChecks.{or_found, or_passed}
 use Rattle.book.proofs.book.rows.check_table.Goals as goal
 
-pub check_column-firsts-requires : goal.check_column-firsts-requires
-check_column-firsts-requires g c = let n = length-map c.args.rows.now g.R.Row.layout.first_word in omega arith
-
-pub check_column-seconds-requires : goal.check_column-seconds-requires
-check_column-seconds-requires g c = let n = length-map c.args.rows.now g.R.Row.layout.second_word in omega arith
+pub returns-in_err-check_column : goal.returns-in_err-check_column
+returns-in_err-check_column g c =
+    let p = err_from_is_err_and c.from_residual.result c.from_residual.ensures.1 in
+    rw (p.1, p.2) (or_found _ _ c.in_err-check_column.ensures)
 
 pub returns : goal.returns
-returns g c = ap result_err c.and.ensures ∙ and_then c.check_column-firsts.result c.check_column-seconds.result c.check_column-firsts.ensures c.check_column-seconds.ensures
+returns g c = or_passed _ _ c.in_ok-check_column.ensures c.check_column-2.ensures

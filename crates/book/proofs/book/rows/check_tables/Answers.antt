@@ -1,9 +1,9 @@
-use Rattle.std.proofs.Common.{◌≡◌, ◌+◌, ◌*◌, map, length, get_or, drop, sym, ap, ◌∙◌, arith}
+use Rattle.std.proofs.Common.{◌≡◌, map, length, get_or, drop, sym, ap, ◌∙◌, arith}
 use Rattle.std.specs.List.{zip}
 use Rattle.std.specs.Result.{result_and, result_err}
-use Rattle.std.proofs.lemmas.List.{length-map}
 use Rattle.strength.specs.declared.values.Marks.{Marks}
 use Rattle.book.specs.declared.form.Column.{Column}
+use Rattle.book.specs.declared.form.Places.{Places}
 use Rattle.book.specs.declared.form.Sizes.{Sizes}
 use Rattle.book.specs.declared.form.Test.TheVariants.{Below}
 use Rattle.book.specs.declared.rows.Clash.{Clash}
@@ -17,29 +17,25 @@ use Rattle.book.proofs.book.rows.check_tables.Goals as goal
 abbrev none : Column
 none = record { test = Below 0; size = 0 }
 
-pub check_column-marks-requires : goal.check_column-marks-requires
-check_column-marks-requires g c =
-    let n = length-map c.deref.result.now (λ (m : Marks). m.0) in
-    omega (arith, c.deref.type_inv)
-
 pub returns : goal.returns
 returns g c =
     let k = g.S.Strength.kind in
     let r = said c.args.rows.now in
-    let s = c.args.sizes in
-    let v = c.requires.sizes in
+    let s = c.args.plan.sizes in
+    let v = c.requires in
+    let at = c.places-places.ensures in
     let t = c.columns_of-tests.ensures ∙ ap columns v in
     let n1 : s.people ≡ length r.marks = ap (λ (s : Sizes). s.people) v in
     let n2 : s.plays ≡ length r.plays = ap (λ (s : Sizes). s.plays) v in
     let n3 : s.covers ≡ length r.covers = ap (λ (s : Sizes). s.covers) v in
     let n4 : s.holds ≡ length r.holds = ap (λ (s : Sizes). s.holds) v in
     let n5 : s.bars ≡ length r.bars = ap (λ (s : Sizes). s.bars) v in
-    let p1 : 8 + s.people ≡ plays_place k r = omega arith in
-    let p2 : 8 + s.people + 2 * s.plays ≡ covers_place k r = omega arith in
-    let p3 : 8 + s.people + 2 * s.plays + 2 * s.covers ≡ holds_place k r = omega arith in
-    let p4 : 8 + s.people + 2 * s.plays + 2 * s.covers + 2 * s.holds ≡ bars_place k r = omega arith in
-    let p5 : 8 + s.people + 2 * s.plays + 2 * s.covers + 2 * s.holds + 2 * s.bars ≡ clashes_place k r = omega arith in
-    let l = c.requires.last ∙ ap last_at v in
+    let p1 : c.places-places.result.plays ≡ plays_place k r = ap (λ (q : Places). q.plays) at ∙ omega arith in
+    let p2 : c.places-places.result.covers ≡ covers_place k r = ap (λ (q : Places). q.covers) at ∙ omega arith in
+    let p3 : c.places-places.result.holds ≡ holds_place k r = ap (λ (q : Places). q.holds) at ∙ omega arith in
+    let p4 : c.places-places.result.bars ≡ bars_place k r = ap (λ (q : Places). q.bars) at ∙ omega arith in
+    let p5 : c.places-places.result.clashes ≡ clashes_place k r = ap (λ (q : Places). q.clashes) at ∙ omega arith in
+    let l = c.last-last.ensures.value ∙ ap last_at v in
     let chained = c.and-5.ensures ∙ ap (λ x. result_and x c.check_clash_table-clashes.result) (c.and-4.ensures ∙ ap (λ x. result_and x c.check_table-bars.result) (c.and-3.ensures
     ∙ ap (λ x. result_and x c.check_table-holds.result) (c.and-2.ensures ∙ ap (λ x. result_and x c.check_table-covers.result) c.and.ensures))) in
     ap result_err chained

@@ -1,42 +1,40 @@
-use Rattle.std.proofs.Common.{◌≡◌, ◌+◌, ◌*◌, ◌<◌, ◌≤◌, List, ◌++◌, map, length, drop, sym, refl, ap, ◌∙◌, subst, arith}
-use Rattle.std.proofs.lemmas.List.{length-map}
+use Rattle.std.proofs.Common.{◌≡◌, ℕ, ◌+◌, ◌*◌, ◌<◌, ◌≤◌, List, ◌++◌, map, length, drop, sym, refl, ap, ◌∙◌, subst, arith}
 use Rattle.strength.specs.declared.values.Marks.{Marks}
+use Rattle.book.specs.declared.faults.Cause.TheVariants.{ShortBuffer}
+use Rattle.book.specs.declared.form.Places.{Places}
 use Rattle.book.specs.declared.form.Sizes.{Sizes}
 use Rattle.book.specs.Over.{over}
 use Rattle.book.specs.Words.{spelled}
 use Rattle.book.specs.Layouts.{flat, play_layout, cover_layout, entry_layout, clash_layout}
-use Rattle.book.specs.Form.{Small, due, listed_sizes}
+use Rattle.book.specs.Form.{due, listed_sizes}
 use Rattle.book.specs.Rules.{written}
 use Rattle.book.specs.Books.{rules}
 use Rattle.book.proofs.Rereading.{rereads}
-use Rattle.book.proofs.Sound.{fits_small, written_long}
+use Rattle.book.proofs.Sound.{written_long}
 use Rattle.book.proofs.Writing.{written_over}
 use Rattle.book.proofs.book.writes.write.Goals as goal
 
-pub due_length-due-requires : goal.due_length-due-requires
-due_length-due-requires g c = let b = c.args.book.now in subst Small (sym c.sizes-sizes.ensures) (fits_small (rules b) b.fit)
-
 pub returns-then-out-due : goal.returns-then-out-due
 returns-then-out-due g c =
-    let d = c.due_length-due.ensures ∙ ap due c.sizes-sizes.ensures ∙ sym (written_long g.S.Strength.kind (rules c.args.book.now)) in
+    let d = c.due-due.ensures ∙ ap due c.plan-plan.ensures ∙ sym (written_long g.S.Strength.kind (rules c.args.book.now)) in
     record {
-      writes = (ap (λ n. (8, n)) d, subst (λ n. length c.args.out.now < n) d c.if-out-due.true, refl);
+      writes = (ap (λ n. (ShortBuffer, n)) d, subst (λ n. length c.args.out.now < n) d c.if-out-due.true, refl);
       rereads = rereads g.S.Strength.kind g.met.S.Strength.reads_back g.met.S.Strength.bounded c.args.book.now;
     }
 
 pub put_column-requires-2 : goal.put_column-requires-2
 put_column-requires-2 g c =
-    let n = length-map c.deref.result.now (λ (m : Marks). m.0) in
-    let p : length c.deref.result.now ≡ c.sizes-sizes.result.people = ap length c.deref.ensures.value ∙ sym (ap (λ (s : Sizes). s.people) c.sizes-sizes.ensures) in
+    let p : length c.deref.result.now ≡ c.plan-plan.result.sizes.people = ap length c.deref.ensures.value ∙ sym (ap (λ (s : Sizes). s.people) c.plan-plan.ensures) in
     omega arith
 
 pub returns : goal.returns
 returns g c =
     let k = g.S.Strength.kind in
     let r = rules c.args.book.now in
-    let s = c.sizes-sizes.result in
-    let v = c.sizes-sizes.ensures in
-    let d = c.due_length-due.ensures ∙ ap due v in
+    let s = c.plan-plan.result.sizes in
+    let v = c.plan-plan.ensures in
+    let d = c.due-due.ensures ∙ ap due v in
+    let at : c.places.result.plays ≡ 8 + s.people = ap (λ (q : Places). q.plays) c.places.ensures in
     let people : s.people ≡ length r.marks = ap (λ (t : Sizes). t.people) v in
     record {
       rereads = rereads k g.met.S.Strength.reads_back g.met.S.Strength.bounded c.args.book.now;
@@ -44,11 +42,11 @@ returns g c =
         d ∙ sym (written_long k r),
         c.if-out-due.false,
         written_over k r c.args.out.now (subst (λ n. n ≤ length c.args.out.now) d c.if-out-due.false)
-            (c.put_column.ensures ∙ ap (λ t. over c.args.out.now 0 (spelled t)) (c.listed.ensures ∙ ap listed_sizes v))
+            (c.put_column.ensures ∙ ap (λ (ws : List ℕ). over c.args.out.now 0 (spelled (map (λ w. w) ws))) (c.listed.ensures ∙ ap listed_sizes v))
             (c.put_column-2.ensures ∙ ap (λ (ms : List Marks). over c.put_column.new.out 64 (spelled (map (λ m. m.0) ms))) c.deref.ensures.value)
-            (omega (arith, people))
-            (c.put_table-place.ensures.after ∙ ap (λ rs. over c.put_column-2.new.out (8 * (8 + s.people)) (spelled (flat play_layout rs))) c.deref-2.ensures.value)
-            (c.put_table-place.ensures.value ∙ ap (λ rs. 8 * (8 + s.people) + 16 * length rs) c.deref-2.ensures.value)
+            (omega (arith, people, at))
+            (c.put_table-place.ensures.after ∙ ap (λ rs. over c.put_column-2.new.out (8 * c.places.result.plays) (spelled (flat play_layout rs))) c.deref-2.ensures.value)
+            (c.put_table-place.ensures.value ∙ ap (λ rs. 8 * c.places.result.plays + 16 * length rs) c.deref-2.ensures.value)
             (c.put_table-place-2.ensures.after ∙ ap (λ rs. over c.put_table-place.new.out c.put_table-place.result (spelled (flat cover_layout rs))) c.deref-3.ensures.value)
             (c.put_table-place-2.ensures.value ∙ ap (λ rs. c.put_table-place.result + 16 * length rs) c.deref-3.ensures.value)
             (c.put_table-place-3.ensures.after ∙ ap (λ rs. over c.put_table-place-2.new.out c.put_table-place-2.result (spelled (flat (entry_layout k) rs))) c.deref-4.ensures.value)

@@ -1,14 +1,12 @@
 -- In range the table tells it, and out of range a step covers only itself.
-use Rattle.std.proofs.Common.{false, get_or, Decides, sym, subst, inl, inr, ⊎_elim}
-use Rattle.book.specs.Covering.{Covers}
+use Rattle.std.proofs.Common.{inl, inr, ⊎_elim, rules}
 use Rattle.std.proofs.lemmas.Bool.Decides.{Decides-eqb}
 use Rattle.book.proofs.TablesTell.{covering_told, covers_outside}
 use Rattle.book.proofs.tables.covering.covers.Goals as goal
 
 pub returns-then-b-lt-STEPS : goal.returns-then-b-lt-STEPS
 returns-then-b-lt-STEPS c rows exact =
-    let told = covering_told rows c.args.table.now exact c.args.stronger.0 c.args.weaker.0 c.if-a-lt-STEPS.true c.if-b-lt-STEPS.true in
-    subst (λ n. Decides (get_or c.args.table.now n false) (Covers rows c.args.stronger.0 c.args.weaker.0)) (sym c.place.ensures) told
+    let t = covering_told rows c.args.table.now exact c.args.stronger.0 c.args.weaker.0 c.if-a-lt-STEPS.true c.if-b-lt-STEPS.true in search rules
 
 pub returns-else-a-lt-STEPS : goal.returns-else-a-lt-STEPS
 returns-else-a-lt-STEPS c rows exact =

@@ -1,13 +1,18 @@
 -- Raising one flag of the diagonal leaves only the diagonal raised.
-use Rattle.std.proofs.Common.{◌+◌, ◌*◌, ◌<◌, length, arith}
-use Rattle.book.proofs.Passes.{only_selves_set, selves_more}
+use Rattle.std.proofs.Common.{◌<◌, [], length, get_or, subst, ◌∙◌, arith}
+use Rattle.std.proofs.lemmas.List.{length-set}
+use Rattle.book.specs.Flags.{Raised}
+use Rattle.book.proofs.Passes.{only_selves_row, selves_row}
+use Rattle.book.proofs.Raised.{raised_cases}
 use Rattle.book.proofs.tables.covering.mark_selves.Goals as goal
 
-pub loop-a-init : goal.loop-a-init
-loop-a-init c = ((λ a b lta ltb h. absurd (c.requires.clear _ h)), λ a lt. absurd (omega arith))
-
-pub loop-a-preserved : goal.loop-a-preserved
-loop-a-preserved c =
-    let l = c.loop-a in
-    let lt : l.a * 64 + l.a < length l.table = omega arith in
-    (only_selves_set l.table l.a c.loop-a-test.true l.invariant.0, selves_more l.table l.a lt l.invariant.1)
+pub loop-step-preserved : goal.loop-step-preserved
+loop-step-preserved c =
+    let t = c.loop-step.table in
+    let a = c.loop-step.step in
+    let row = c.raise.new.row in
+    let lt : a < length t = omega (arith, c.loop-step-test.true, c.loop-step.invariant.2) in (
+      only_selves_row t a row lt (λ y h. raised_cases (get_or t a []) a y (subst (λ r. Raised r y) c.raise.ensures.new h)) c.loop-step.invariant.0 c.loop-step-test.true,
+      selves_row t a row lt c.raise.ensures.raised c.loop-step.invariant.1,
+      length-set t a row ∙ c.loop-step.invariant.2,
+    )

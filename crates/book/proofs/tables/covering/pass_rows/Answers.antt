@@ -17,14 +17,11 @@ none = record { stronger = record { 0 = 0 }; weaker = record { 0 = 0 } }
 
 pub pass_row-requires : goal.pass_row-requires
 pass_row-requires c =
-    record {
-      size = omega arith;
-      range = c.requires.range _ (member c.args.rows.now c.loop-row.row-index none c.loop-row-test.true);
-    }
+    c.requires.range _ (member c.args.rows.now c.loop-row.row-index none c.loop-row-test.true)
 
 pub loop-row-init : goal.loop-row-init
 loop-row-init c =
-    (c.requires.sound, (λ i h. h), omega arith, (λ e. absurd (both_ways false refl e)), (λ _. AllWithin-none (RowPassed c.args.table.now) c.args.rows.now 0))
+    (c.requires.sound, (λ i j h. h), omega arith, (λ e. absurd (both_ways false refl e)), (λ _. AllWithin-none (RowPassed c.args.table.now) c.args.rows.now 0))
 
 pub loop-row-preserved : goal.loop-row-preserved
 loop-row-preserved c =
@@ -42,12 +39,12 @@ loop-row-preserved c =
       | else-pass_row w ↦ subst goal (sym w.changed-is) (
         (λ e. omega (arith, less, l.invariant.3 e)),
         (λ e.
-            let before : AllWithin (RowPassed t) rows 0 i = subst (λ (x : List Bool). AllWithin (RowPassed x) rows 0 i) (sym (p.ensures.same w.if-pass_row.false)) (l.invariant.4 e) in
+            let before : AllWithin (RowPassed t) rows 0 i = subst (λ (x : List (List Bool)). AllWithin (RowPassed x) rows 0 i) (sym (p.ensures.same w.if-pass_row.false)) (l.invariant.4 e) in
             AllWithin-more (RowPassed t) rows 0 i before (at_any (RowPassed t) rows i none lt p.ensures.passed)),
       )
     ] in (
       sound_passed rows (get_or rows i none) l.table t c.requires.range (member rows i none lt) l.invariant.0 p.ensures.only,
-      (λ j h. p.ensures.grows j (l.invariant.1 j h)),
+      (λ a b h. p.ensures.grows a b (l.invariant.1 a b h)),
       omega (arith, less, l.invariant.2),
       rest.0,
       rest.1,

@@ -1,30 +1,29 @@
 -- One row more raises the flag of its person and its post.
-use Rattle.std.proofs.Common.{ℕ, ◌+◌, ◌*◌, ◌<◌, true, List, length, get_or, set, sym, subst, arith}
+use Rattle.std.proofs.Common.{[], List, get_or, set, sym, subst, ◌∙◌, arith, lit<}
 use mathlib.Core.List.Memᴰ
-use Rattle.std.proofs.lemmas.List.{take_all, take_more}
-use Rattle.book.specs.Playing.{PlaysInRange, TellsPlaying}
+use Rattle.std.proofs.lemmas.List.{length-set, take_all, take_more}
+use Rattle.book.specs.Flags.{Raised}
+use Rattle.book.specs.Playing.{TellsPlaying}
 use Rattle.book.specs.declared.rows.Play.{Play}
 use Rattle.book.proofs.Filled.{filled_more}
 use Rattle.book.proofs.Members.{member}
+use Rattle.book.proofs.Raised.{raised_cases}
 use Rattle.book.proofs.tables.playing.fill.Goals as goal
 
 abbrev none : Play
 none = record { person = record { 0 = 0 }; post = record { 0 = 0 } }
 
-in_range : (rows : List Play) (i : ℕ) → PlaysInRange rows → i < length rows → ((get_or rows i none).person.0 < 256) × ((get_or rows i none).post.0 < 64)
-in_range rows i range lt = range (get_or rows i none) (member rows i none lt)
-
 pub loop-row-init : goal.loop-row-init
-loop-row-init c u p ltu ltp = ((λ s. absurd (c.requires.clear _ s)), (λ w. absurd (Memᴰ.not-nil w.1)))
+loop-row-init c = ((λ u p ltu ltp. ((λ s. absurd (c.requires.clear _ _ s)), (λ w. absurd (Memᴰ.not-nil w.1)))), c.told-table)
 
-pub overflow_mul-table : goal.overflow_mul-table
-overflow_mul-table c = let r = in_range c.args.rows.now c.loop-row.row-index c.requires.range c.loop-row-test.true in omega arith
+pub offset_bounds-table-row : goal.offset_bounds-table-row
+offset_bounds-table-row c = let r = c.requires.range _ (member c.args.rows.now c.loop-row.row-index none c.loop-row-test.true) in omega arith
 
-pub overflow_add-table : goal.overflow_add-table
-overflow_add-table c = let r = in_range c.args.rows.now c.loop-row.row-index c.requires.range c.loop-row-test.true in omega arith
+pub bounds-table-row : goal.bounds-table-row
+bounds-table-row c = let r = c.requires.range _ (member c.args.rows.now c.loop-row.row-index none c.loop-row-test.true) in omega arith
 
-pub bounds-table-person : goal.bounds-table-person
-bounds-table-person c = let r = in_range c.args.rows.now c.loop-row.row-index c.requires.range c.loop-row-test.true in omega arith
+pub raise-requires : goal.raise-requires
+raise-requires c = (lit< tt, (c.requires.range _ (member c.args.rows.now c.loop-row.row-index none c.loop-row-test.true)).1)
 
 pub loop-row-preserved : goal.loop-row-preserved
 loop-row-preserved c =
@@ -33,10 +32,14 @@ loop-row-preserved c =
     let t = c.loop-row.table in
     let row = get_or rows i none in
     let lt = c.loop-row-test.true in
-    let r = in_range rows i c.requires.range lt in
-    subst (λ (xs : List Play). TellsPlaying xs (set t (row.person.0 * 64 + row.post.0) true)) (sym (take_more rows i none lt))
-    (filled_more _ row t (omega arith) r.0 r.1 c.loop-row.invariant)
+    let r = c.requires.range row (member rows i none lt) in
+    let u = row.person.0 in
+    let flags = c.raise.new.row in (
+      subst (λ (xs : List Play). TellsPlaying xs (set t u flags)) (sym (take_more rows i none lt))
+          (filled_more _ row t flags (omega (arith, r.0, c.loop-row.invariant.1)) r.0 (λ y h. raised_cases (get_or t u []) row.post.0 y (subst (λ f. Raised f y) c.raise.ensures.new h)) c.raise.ensures.grows c.raise.ensures.raised c.loop-row.invariant.0),
+      length-set t u flags ∙ c.loop-row.invariant.1,
+    )
 
 pub returns : goal.returns
 returns c =
-    subst (λ (xs : List Play). TellsPlaying xs c.loop-row.table) (take_all c.loop-row.row-index c.args.rows.now c.loop-row-test.false) c.loop-row.invariant
+    subst (λ (xs : List Play). TellsPlaying xs c.loop-row.table) (take_all c.loop-row.row-index c.args.rows.now c.loop-row-test.false) c.loop-row.invariant.0

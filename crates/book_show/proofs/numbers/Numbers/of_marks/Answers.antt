@@ -1,9 +1,11 @@
-use Rattle.std.proofs.Common.{◌≡◌, ◌/◌, ◌%◌, ◌^◌, eqb, arith, eq-eqb, eqb-true}
-use Rattle.book_show.proofs.Telling.{tells_more}
+-- The test is the bit.
+use Rattle.std.proofs.Common.{◌==◌, ◌/◌, ◌%◌, ◌^◌, rules}
+use borrow.Author.Tests.{tests}
+use Rattle.std.proofs.lemmas.Bool.Decides.{Decides-at, Decides-eqb}
 use Rattle.book_show.proofs.numbers.Numbers.of_marks.Goals as goal
 
-pub loop-bit-preserved : goal.loop-bit-preserved
-loop-bit-preserved c =
-    let l = c.loop-bit in
-    let b = c.args.marks.0 / 2 ^ l.bit % 2 in
-    tells_more (λ k. c.args.marks.0 / 2 ^ k % 2 ≡ 1) l.found l.bit (eqb b 1) (omega (arith, c.loop-bit-test.true)) (eqb-true b 1, eq-eqb b 1) l.invariant
+pub returns : goal.returns
+returns c k lt =
+    let h = c.passing.ensures k lt in
+    let b = c.args.marks.0 / 2 ^ k % 2 in
+    Decides-at _ (b == 1) (search (rules, tests)) (Decides-eqb b 1)

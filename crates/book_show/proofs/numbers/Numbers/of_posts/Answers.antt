@@ -1,9 +1,7 @@
-use Rattle.std.proofs.Common.{vec_items}
-use Rattle.book.specs.Playing.{Plays}
-use Rattle.book_show.proofs.Telling.{tells_more}
+-- The test is what the book says.
+use Rattle.std.proofs.Common.{rules}
+use borrow.Author.Tests.{tests}
 use Rattle.book_show.proofs.numbers.Numbers.of_posts.Goals as goal
 
-pub loop-post-preserved : goal.loop-post-preserved
-loop-post-preserved g c =
-    let l = c.loop-post in
-    tells_more (Plays (vec_items c.args.book.now.rows.plays) c.args.person.0) l.found l.post c.plays.result c.loop-post-test.true c.plays.ensures l.invariant
+pub returns : goal.returns
+returns g c k lt = let h = c.passing.ensures k lt in search (rules, tests)

@@ -1,0 +1,11 @@
+-- The answer is 1 or 0 as the person is entitled or not.
+use Rattle.std.proofs.Common.{inl, inr, rules}
+use Rattle.std.proofs.lemmas.Bool.{both_ways, cases_Bool}
+use Rattle.register.proofs.register.grants.answer.Goals as goal
+
+pub returns : goal.returns
+returns g c =
+    elim (cases_Bool c.entitled.result) [
+      | inl e ↦ inl (search rules, c.entitled.ensures.0 e)
+      | inr e ↦ inr (search rules, λ p. both_ways c.entitled.result e (c.entitled.ensures.1 p))
+    ]
