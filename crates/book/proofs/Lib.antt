@@ -6,7 +6,7 @@ mod Fitting
 mod Judged
 mod LeastCause
 mod LeastWitness
-mod Members
+pub mod Members
 mod Overs
 mod Passes
 mod Pushed

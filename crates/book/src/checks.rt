@@ -1,10 +1,12 @@
 // The checks of words, whether they lie in a file or in rows. A refusal is a cause and a place.
-ghost use Rattle.std.specs.Prelude.{◌≡◌, ◌+◌, ◌^◌, ◌<◌, ◌≤◌, map, length, drop};
+ghost use Rattle.std.specs.Prelude.{◌≡◌, ◌+◌, ◌^◌, ◌<◌, ◌≤◌, List, Option, map, length, drop};
+ghost use Rattle.std.specs.Iterator.{AlwaysYields, IsFinite, size};
 ghost use Rattle.std.specs.Result.{result_err};
 ghost use Rattle.std.specs.List.{zip};
 ghost use Rattle.book.specs.Words.{word_of};
 ghost use Rattle.book.specs.Causes.{size_cause, cause, clash_cause, first};
 ghost use Rattle.book.specs.Form.{total, in_columns};
+ghost use Rattle.book.specs.declared.faults.Cause.{Cause};
 
 use crate::faults::{Cause, Refusal};
 use crate::form::{Column, Limit, Test};
@@ -22,6 +24,21 @@ fn judge_size(limit: Limit, size: u64) -> Option<Cause>
     }
 }
 
+/// Refuses the first cause, if there is one; places count from this one.
+fn refuse_first<I: Iterator<Item = Option<Cause>>>(causes: I, place: usize) -> Result<(), Refusal>
+    requires can { I.can_next causes }
+    requires finite { IsFinite (I.remaining causes) }
+    requires fits { place + size (I.remaining causes) < 2 ^ 64 }
+    ensures { (cs : List (Option Cause)) → AlwaysYields I.next_gives (λ c. c) causes cs → result_err result ≡ first (λ c. c) place cs }
+{
+    for (i, cause) in causes.enumerate() {
+        if let Some(cause) = cause {
+            return Err((cause, place + i));
+        }
+    }
+    Ok(())
+}
+
 /// Whether each size is within its limits; the place is the first that is not.
 pub(crate) fn check_sizes<const N: usize>(
     sizes: &[u64; N],
@@ -29,12 +46,8 @@ pub(crate) fn check_sizes<const N: usize>(
 ) -> Result<(), Refusal>
     ensures { result_err result ≡ first size_cause 0 (zip limits.now sizes.now) }
 {
-    for (i, (limit, size)) in limits.iter().zip(sizes).enumerate() {
-        if let Some(cause) = judge_size(*limit, *size) {
-            return Err((cause, i));
-        }
-    }
-    Ok(())
+    let pairs = limits.iter().zip(sizes);
+    refuse_first(pairs.map(|(limit, size)| judge_size(*limit, *size)), 0)
 }
 
 // Tests are data, which the definition of a book lists with its columns, so they are no closures.
@@ -44,6 +57,7 @@ fn judge<S: Strength>(test: Test, word: u64) -> Option<Cause>
 {
     match test {
         Test::Below(limit) if word < limit => None,
+        // By hand: `Key::from_word` refuses posts from 64 on, and the limit of a test may be higher.
         Test::Key(posts, steps) if word / 64 < posts && word % 64 < steps => None,
         Test::Strength if S::from_word(word).is_some() => None,
         Test::Below(_) | Test::Key(..) => Some(Cause::OutOfRange),
@@ -51,6 +65,7 @@ fn judge<S: Strength>(test: Test, word: u64) -> Option<Cause>
     }
 }
 
+// Rows and the place of their column are no struct, as each call would make one just to have it taken apart.
 /// Whether this word of each row passes the test; the column begins at this place.
 pub(crate) fn check_column<S: Strength, R: Copy, W: WordOf<R>>(
     rows: &[R],
@@ -60,12 +75,8 @@ pub(crate) fn check_column<S: Strength, R: Copy, W: WordOf<R>>(
     requires { place + length rows.now < 2 ^ 64 }
     ensures { result_err result ≡ first (cause S.kind test) place (map W.in_row rows.now) }
 {
-    for (i, row) in rows.iter().enumerate() {
-        if let Some(cause) = judge::<S>(test, W::in_row(*row)) {
-            return Err((cause, place + i));
-        }
-    }
-    Ok(())
+    let words = rows.iter().map(|row| W::in_row(*row));
+    refuse_first(words.map(|word| judge::<S>(test, word)), place)
 }
 
 /// How many words the columns have.
@@ -118,10 +129,11 @@ pub(crate) fn check_clashes<A: Copy, B: Copy, V: WordOf<A>, W: WordOf<B>>(
     requires { place + length others.now < 2 ^ 64 }
     ensures { result_err result ≡ first (clash_cause steps) place (zip (map V.in_row ones.now) (map W.in_row others.now)) }
 {
-    for (i, (one, other)) in ones.iter().zip(others).enumerate() {
-        if let Some(cause) = judge_clash(steps, V::in_row(*one), W::in_row(*other)) {
-            return Err((cause, place + i));
-        }
-    }
-    Ok(())
+    let ones = ones.iter().map(|one| V::in_row(*one));
+    let others = others.iter().map(|other| W::in_row(*other));
+    let pairs = ones.zip(others);
+    refuse_first(
+        pairs.map(|(one, other)| judge_clash(steps, one, other)),
+        place,
+    )
 }

@@ -24,6 +24,7 @@ pub enum Cause {
     ShortBuffer = 8,
 }
 
+// Each layer has its own causes, and a definition of their numbers: a trait for one cast would be no plainer.
 impl Cause {
     /// The number that a panel is told.
     pub fn number(self) -> u8

@@ -21,4 +21,4 @@ pub use book::writes::write;
 pub use faults::{BookFault, Cause, Refusal};
 pub use keys::Key;
 pub use rows::{Clash, Cover, Entry, Lot, Person, Play, Post, Rows, Step};
-pub use sizes::MOST_BYTES;
+pub use sizes::{MOST_BYTES, MOST_PEOPLE, MOST_POSTS, MOST_STEPS};

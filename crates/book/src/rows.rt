@@ -4,7 +4,7 @@ use crate::keys::Key;
 use strength::Marks;
 
 /// Somebody who works at the mill, by number.
-#[derive(Clone, Copy, Debug, PartialEq, Eq)]
+#[derive(Clone, Copy, Debug, Default, PartialEq, Eq)]
 pub struct Person(pub u64);
 
 /// A role that people play, by number.
@@ -12,7 +12,7 @@ pub struct Person(pub u64);
 pub struct Post(pub u64);
 
 /// A task of the work, by number.
-#[derive(Clone, Copy, Debug, PartialEq, Eq)]
+#[derive(Clone, Copy, Debug, Default, PartialEq, Eq)]
 pub struct Step(pub u64);
 
 /// One batch of olives, by number.

@@ -9,6 +9,15 @@ use crate::words::{Whole, WordOf};
 /// How many sizes a book begins with.
 pub(crate) const SIZES: usize = 8;
 
+/// How many people a book has at most.
+pub const MOST_PEOPLE: usize = 256;
+
+/// How many posts a book has at most.
+pub const MOST_POSTS: usize = 64;
+
+/// How many steps a book has at most.
+pub const MOST_STEPS: usize = 64;
+
 /// How many bytes a sound book has at most.
 pub const MOST_BYTES: usize = 38_976;
 
@@ -22,10 +31,16 @@ pub(crate) fn size_limits() -> [Limit; SIZES]
     [
         Limit {
             least: 1,
-            most: 256,
+            most: MOST_PEOPLE as u64,
         },
-        Limit { least: 1, most: 64 },
-        Limit { least: 1, most: 64 },
+        Limit {
+            least: 1,
+            most: MOST_POSTS as u64,
+        },
+        Limit {
+            least: 1,
+            most: MOST_STEPS as u64,
+        },
         Limit {
             least: 0,
             most: 1024,

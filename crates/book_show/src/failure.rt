@@ -10,14 +10,8 @@ pub enum Failure {
     Usage,
     /// There is no memory for the book.
     #[error("book_show: there is no memory for the book")]
-    Memory,
+    Memory(#[from] AllocError),
     /// The file cannot be read, or standard output not written.
     #[error("book_show: {0}")]
     Stream(#[from] io::Error),
-}
-
-impl From<AllocError> for Failure {
-    fn from(_fault: AllocError) -> Failure {
-        Failure::Memory
-    }
 }

@@ -2,7 +2,7 @@
 ghost use Rattle.std.specs.Prelude.{◌≡◌, ◌≤◌, MatchOption};
 ghost use Rattle.book_show.specs.Limits.{limit_at};
 
-use book::{Cause, Refusal};
+use book::{Cause, MOST_PEOPLE, MOST_POSTS, MOST_STEPS, Refusal};
 use std::fmt;
 
 /// A refusal as a sentence.
@@ -15,9 +15,9 @@ fn size_at(place: usize) -> Option<(&'static str, u64, u64)>
 {
     // A match, since a table of constants would say no more and have to be indexed.
     match place {
-        0 => Some(("people", 1, 256)),
-        1 => Some(("posts", 1, 64)),
-        2 => Some(("steps", 1, 64)),
+        0 => Some(("people", 1, MOST_PEOPLE as u64)),
+        1 => Some(("posts", 1, MOST_POSTS as u64)),
+        2 => Some(("steps", 1, MOST_STEPS as u64)),
         3 => Some(("plays", 0, 1024)),
         4 => Some(("covers", 0, 256)),
         5 => Some(("holds", 0, 512)),

@@ -1,10 +1,9 @@
 // What the program is given: its arguments.
-ghost use Rattle.std.specs.Prelude.{◌≡◌, MatchOption, ◌≢◌};
-ghost use Rattle.book_show.specs.declared.input.Kind.{Kind};
-ghost use Rattle.book_show.specs.Kinds.{name};
+ghost use Rattle.book_show.specs.Kinds.{ReadsKind};
 
 use crate::failure::Failure;
 use std::env;
+use std::str::FromStr;
 
 /// The line whose book it is, which says what its strengths are.
 #[derive(Clone, Copy, Debug, PartialEq, Eq)]
@@ -13,15 +12,17 @@ pub enum Kind {
     Malaxer,
 }
 
-// A FromStr would need an error of its own beside Failure, which says it all.
-/// The kind that has this name, if there is one.
-fn kind_of(word: &str) -> Option<Kind>
-    ensures { MatchOption result ((k : Kind) → word.now ≢ name k) (λ k. word.now ≡ name k) }
-{
-    match word {
-        "press" => Some(Kind::Press),
-        "malaxer" => Some(Kind::Malaxer),
-        _ => None,
+impl FromStr for Kind {
+    type Err = Failure;
+
+    ghost from_str_gives = { ReadsKind };
+
+    fn from_str(word: &str) -> Result<Kind, Failure> {
+        match word {
+            "press" => Ok(Kind::Press),
+            "malaxer" => Ok(Kind::Malaxer),
+            _ => Err(Failure::Usage),
+        }
     }
 }
 
@@ -32,6 +33,5 @@ pub fn arguments(rt: &HostRuntime) -> Result<(String, Kind), Failure> {
     let (Some(path), Some(word), None) = (words.next(), words.next(), words.next()) else {
         return Err(Failure::Usage);
     };
-    let kind = kind_of(word.as_str()).ok_or(Failure::Usage)?;
-    Ok((path, kind))
+    Ok((path, word.parse()?))
 }

@@ -21,6 +21,7 @@ use strength::{Band, Pair, Reach};
 fn run(rt: &HostRuntime) -> Result<(), Failure> {
     let (path, kind) = arguments(rt)?;
     let bytes = file_or_none(rt, path.as_str(), MOST_BYTES as u64 + 1)?;
+    // A match, since a name chooses a type here, and just once.
     match kind {
         Kind::Press => show::<Reach>(rt, &bytes),
         Kind::Malaxer => show::<Pair<Reach, Band>>(rt, &bytes),

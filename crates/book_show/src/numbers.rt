@@ -4,13 +4,14 @@ ghost use Rattle.book.specs.Covering.{Covers};
 ghost use Rattle.book.specs.Playing.{Plays};
 ghost use Rattle.book_show.specs.Flags.{Tells, raised};
 
-use book::{Book, Person, Post, Step};
+use book::{Book, MOST_STEPS, Person, Post, Step};
 use std::{array, fmt};
 use strength::{Marks, Strength};
 
-// A book has at most this many posts and as many steps, and marks have fewer bits.
-const LIMIT: usize = 64;
+// A book has at most as many posts, and marks have fewer bits.
+const LIMIT: usize = MOST_STEPS;
 
+// Flags in the value itself, since a set of the library takes memory, and may want for it.
 /// Some of the numbers below 64.
 #[derive(Clone, Copy, Debug, PartialEq, Eq)]
 pub struct Numbers([bool; LIMIT]);
@@ -32,7 +33,7 @@ impl Numbers {
     pub fn of_marks(marks: Marks) -> Numbers
         ensures { Tells (λ k. marks.0 / 2 ^ k % 2 ≡ 1) result.0 64 }
     {
-        Numbers::passing(|bit| (marks.0 as u64 >> bit) % 2 == 1)
+        Numbers::passing(|bit| (u64::from(marks.0) >> bit) % 2 == 1)
     }
 
     /// The posts that the person plays.

@@ -5,6 +5,7 @@ use crate::nouns::counted;
 use crate::sections::{Bars, Clashes, People, Posts, Steps};
 use crate::strengths::Describe;
 use book::{Book, BookFault};
+use std::alloc::AllocError;
 use std::fmt;
 use strength::Strength;
 
@@ -43,7 +44,7 @@ pub fn show<S: Strength + Describe>(rt: &HostRuntime, bytes: &[u8]) -> Result<()
             println!(rt; "\nread and written back, {} bytes alike", copy.len())?;
         }
         Err(BookFault::Refused(refusal)) => rt.println(Refused(refusal))?,
-        Err(BookFault::Memory) => return Err(Failure::Memory),
+        Err(BookFault::Memory) => return Err(AllocError.into()),
     }
     Ok(())
 }

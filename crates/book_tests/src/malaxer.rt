@@ -6,9 +6,10 @@ use std::alloc::Global;
 use std::test::Fail;
 use strength::{Band, Count, Marks, Pair, Reach, Strength, Tenths};
 
+// Alike in both crates of tests: a crate for these few lines would owe contracts and edits of its own.
 /// The word of a pair of a reach and a band.
 fn pair_word(reach: u32, lowest: u16, highest: u16) -> u64 {
-    (highest as u64 * 65_536 + lowest as u64) * 4_294_967_296 + reach as u64
+    (u64::from(highest) * 65_536 + u64::from(lowest)) * 4_294_967_296 + u64::from(reach)
 }
 
 /// A book with one hold, whose strength is word 10, and one bar, whose strength is word 12.

@@ -16,7 +16,7 @@ use strength::Strength;
 /// | 20, 21 | key and strength of the hold |
 /// | 22, 23 | key and strength of the bar |
 /// | 24, 25 | steps of the clash |
-// Each crate of tests has an example of its own, and what makes bytes of it.
+// Alike in both crates of tests: a crate for these few lines would owe contracts and edits of its own.
 pub(crate) const EXAMPLE: [u64; 26] = [
     4, 2, 3, 2, 2, 1, 1, 1, 1, 1, 1, 0, 0, 3, 0, 1, 0, 0, 1, 2, 0, 33_554_432, 66, 16_777_216, 1, 2,
 ];
@@ -24,13 +24,13 @@ pub(crate) const EXAMPLE: [u64; 26] = [
 /// How many bytes the example has.
 pub(crate) const LENGTH: usize = 208;
 
+// Alike in both crates of tests: a crate for these few lines would owe contracts and edits of its own.
 /// The bytes of these words, least byte first.
 pub(crate) fn bytes(heap: Global, words: &[u64]) -> Result<Vec<u8>, AllocError> {
-    let mut bytes = Vec::new(heap);
-    for word in words {
-        bytes.extend_from_slice(&word.to_le_bytes())?;
-    }
-    Ok(bytes)
+    words
+        .iter()
+        .flat_map(|word| word.to_le_bytes())
+        .collect(heap)
 }
 
 /// A book that has to be there.

@@ -1,5 +1,5 @@
-mod Searches
-mod Judged
+pub mod Searches
+pub mod Judged
 mod Ranges
 mod Links
 mod Flags

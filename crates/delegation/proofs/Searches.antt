@@ -5,12 +5,13 @@ use mathlib.Core.List.{Memᴰ}
 use denote.Param.Members.{Mut, Called}
 use Rattle.std.specs.Bool.{MatchBool}
 use Rattle.std.specs.Iterator.{ChecksAny}
-use Rattle.std.specs.List.{filter, AllWithin, HoldsAt, IsAnyAnswer}
-use Rattle.std.proofs.lemmas.Bool.{false≢true, cases_Bool}
-use Rattle.std.proofs.lemmas.Bool.Decides.{not_from_Decides, Decides-like}
+use Rattle.std.specs.List.{filter, AllWithin, HoldsAt, list_any}
+use Rattle.std.proofs.lemmas.Bool.{false≢true, cases_Bool, or_cases}
+use Rattle.std.proofs.lemmas.Bool.Decides.{not_from_Decides}
 use Rattle.std.proofs.lemmas.Iterator.{YieldsList, cases_from_any}
-use Rattle.std.proofs.lemmas.List.Elements.{contains_decides}
+use Rattle.std.proofs.lemmas.List.Folds.{list_any_at}
 use Rattle.std.proofs.lemmas.List.{take_more}
+use Rattle.book.proofs.Members.{member}
 use Rattle.delegation.specs.Found.{SomeOf, NoneOf, Filtered, Counted}
 use Rattle.delegation.specs.Found.Filtered.{none, stays, goes}
 
@@ -29,14 +30,9 @@ mem_place {x = x} (y ∷ ys) m =
       | inr n ↦ (let r = mem_place ys n in (suc r.0, omega (arith, r.1), r.2))
     ]
 
-pub get_or-mem : {X : Type 0} (xs : List X) (i : ℕ) (d : X) → i < length xs → Memᴰ (get_or xs i d) xs
-get_or-mem [] i d h = absurd (omega arith)
-get_or-mem (x ∷ xs) zero d h = Memᴰ.head refl
-get_or-mem (x ∷ xs) (suc i) d h = Memᴰ.tail (get_or-mem xs i d (omega arith))
-
 -- what holds at a place holds of some element
 some_at : {X : Type 0} (P : X → Type 0) (xs : List X) → (k : ℕ) × (k < length xs) × HoldsAt P xs k → SomeOf P xs
-some_at P xs (k, lt, here) = let x = some_read xs k lt in (x.0, subst (λ y. Memᴰ y xs) (x.1 x.0) (get_or-mem xs k x.0 lt), subst P (x.1 x.0) (here x.0))
+some_at P xs (k, lt, here) = let x = some_read xs k lt in (x.0, subst (λ y. Memᴰ y xs) (x.1 x.0) (member xs k x.0 lt), subst P (x.1 x.0) (here x.0))
 
 -- `any` found an element that has Yes, or each has No
 pub some_or_none : {S A B F : Type 0} {steps : S → Option A → S → Type 0} {v : A → B} {g : Mut F (A × Unit {0}) Bool} {s : S} {xs : List B} (Yes No : B → Type 0) (u : S) (f : F) (r : Bool) →
@@ -61,22 +57,28 @@ some_from_any {xs = xs} P u f r ran gives says =
     (some_or_none P (λ x. P x → ⊥) u f r ran gives (λ x q k. (says x true q k).1.0 refl) (λ x q k. let w = says x false q k in (w.0, not_from_Decides false w.1 refl)))
 
 -- `contains` says whether a value is a member, where `==` decides equality
-pub member_from_contains : {X : Type 0} (E : X → X → Bool) → ((a b : X) → Decides (E a b) (a ≡ b)) → (xs : List X) (x : X) (r : Bool) → IsAnyAnswer (λ y t. E y x ≡ t) xs r → Decides r (Memᴰ x xs)
-member_from_contains E decides xs x r found =
-    Decides-like r (λ f. subst (λ y. Memᴰ y xs) (f.2 x) (get_or-mem xs f.0 x f.1)) (λ m. mem_place xs m) (contains_decides E decides xs x r found)
+pub member_from_contains : {X : Type 0} (E : X → X → Bool) → ((a b : X) → Decides (E a b) (a ≡ b)) → (xs : List X) (x : X) {r : Bool} → r ≡ list_any (λ y. E y x) xs → Decides r (Memᴰ x xs)
+member_from_contains {X} E decides xs x is = ((λ e. found xs (sym is ∙ e)), (λ m. is ∙ has m))
+  where
+    found : (ys : List X) → list_any (λ y. E y x) ys ≡ true → Memᴰ x ys
+    found [] e = absurd (cc)
+    found (y ∷ ys) e = ⊎_elim (λ t. Memᴰ.head (sym ((decides y x).0 t))) (λ r. Memᴰ.tail (found ys r)) (or_cases (E y x) (list_any (λ z. E z x) ys) e)
+
+    has : Memᴰ x xs → list_any (λ y. E y x) xs ≡ true
+    has m = let p = mem_place xs m in list_any_at (λ y. E y x) xs p.0 x p.1 ((decides (get_or xs p.0 x) x).1 (p.2 x))
 
 -- a filter by a test that decides P keeps those that have P
-kept : {X : Type 0} (P : X → Type 0) (test : X → Bool) → ((x : X) → Decides (test x) (P x)) → (xs : List X) → Filtered P xs (filter test xs)
-kept P test decides [] = none
-kept P test decides (x ∷ xs) =
+pub Filtered-filter : {X : Type 0} (P : X → Type 0) (test : X → Bool) → ((x : X) → Decides (test x) (P x)) → (xs : List X) → Filtered P xs (filter test xs)
+Filtered-filter P test decides [] = none
+Filtered-filter P test decides (x ∷ xs) =
     elim (cases_Bool (test x)) [
-      | inl e ↦ subst (λ b. Filtered P (x ∷ xs) (cond b (x ∷ filter test xs) (filter test xs))) (sym e) (stays ((decides x).0 e) (kept P test decides xs))
-      | inr e ↦ subst (λ b. Filtered P (x ∷ xs) (cond b (x ∷ filter test xs) (filter test xs))) (sym e) (goes (not_from_Decides (test x) (decides x) e) (kept P test decides xs))
+      | inl e ↦ subst (λ b. Filtered P (x ∷ xs) (cond b (x ∷ filter test xs) (filter test xs))) (sym e) (stays ((decides x).0 e) (Filtered-filter P test decides xs))
+      | inr e ↦ subst (λ b. Filtered P (x ∷ xs) (cond b (x ∷ filter test xs) (filter test xs))) (sym e) (goes (not_from_Decides (test x) (decides x) e) (Filtered-filter P test decides xs))
     ]
 
 -- so its count is how many have it
 pub counted_by : {X : Type 0} (P : X → Type 0) (test : X → Bool) → ((x : X) → Decides (test x) (P x)) → (xs : List X) (n : ℕ) → n ≡ length (filter test xs) → Counted P xs n
-counted_by P test decides xs n e = (filter test xs, kept P test decides xs, e)
+counted_by P test decides xs n e = (filter test xs, Filtered-filter P test decides xs, e)
 
 -- no element up to the one at a place has P, if no earlier one has it and this one has not
 pub none_more : {X : Type 0} (P : X → Type 0) (xs : List X) (i : ℕ) (x : X) → i < length xs → x ≡ get_or xs i x → NoneOf P (take i xs) → (P x → ⊥) → NoneOf P (take (i + 1) xs)

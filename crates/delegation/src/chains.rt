@@ -9,7 +9,7 @@ use arrayvec::ArrayVec;
 use book::Book;
 use strength::Strength;
 
-// A type for so few grants would ask the same of whoever makes one, so three contracts say it.
+// Clauses on slices say it: a type would be made at each call, of rows the register keeps few.
 /// At most this many grants stand in a register.
 pub const MOST_GRANTS: usize = 512;
 
@@ -26,7 +26,7 @@ fn leads<S: Strength>(book: &Book<S>, earlier: Option<Grant<S>>, grant: Grant<S>
     }
 }
 
-// What is gone and what is seen lie beside the grants, since callers give and get such flags.
+// Flags in fixed arrays beside the grants, as a withdrawal must not fail for want of memory.
 /// Flags and queues each grant that is not gone and may come next.
 fn reach<S: Strength>(
     book: &Book<S>,

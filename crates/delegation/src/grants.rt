@@ -33,7 +33,7 @@ pub struct Question<S> {
     pub lot: Lot,
 }
 
-// Strengths are told apart by their words.
+// By hand, since a derive would ask every kind of strength for an `==` beside its word.
 impl<S: Strength> PartialEq for Right<S> {
     ghost eq = { eq_of_both (on (λ a. a.step.0) ◌==◌) (on (λ a. S.kind.word a.strength) ◌==◌) };
 

@@ -19,6 +19,7 @@ fn supports_on<S: Strength>(book: &Book<S>, earlier: Grant<S>, grant: Grant<S>) 
     earlier.lot == grant.lot && supports(book, earlier, grant)
 }
 
+// The register lends book and grants from two fields; a struct would be made just to be split.
 /// Whether a right that the giver has on the lot, by post or by one of these grants, backs the
 /// grant.
 pub fn backed<S: Strength>(book: &Book<S>, grants: &[Grant<S>], grant: Grant<S>) -> bool

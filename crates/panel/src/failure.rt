@@ -7,14 +7,8 @@ use thiserror::Error;
 pub enum Failure {
     /// There is no memory.
     #[error("there is no memory")]
-    Memory,
+    Memory(#[from] AllocError),
     /// A file or a stream fails.
     #[error(transparent)]
     Stream(#[from] io::Error),
-}
-
-impl From<AllocError> for Failure {
-    fn from(_fault: AllocError) -> Failure {
-        Failure::Memory
-    }
 }

@@ -22,24 +22,18 @@ fn answers<S: Strength>(
     script: &[u8],
     filler: S,
 ) -> Result<Vec<u8>, AllocError> {
-    let nobody = Person(0);
     let right = Right {
-        step: Step(0),
+        step: Step::default(),
         strength: filler,
     };
     let grant = Grant {
-        giver: nobody,
-        receiver: nobody,
+        giver: Person::default(),
+        receiver: Person::default(),
         right,
-        lot: Lot(0),
-    };
-    let record = Record {
-        person: nobody,
-        step: Step(0),
-        lot: Lot(0),
+        lot: Lot::default(),
     };
     let mut grants = vec![in heap; grant; MOST_GRANTS]?;
-    let mut records = vec![in heap; record; MOST_RECORDS]?;
+    let mut records = vec![in heap; Record::default(); MOST_RECORDS]?;
     let mut output = Vec::new(heap);
     let mut register = Register::new(book, &mut grants, &mut records);
     run(&mut register, script, &mut output)?;
@@ -59,7 +53,7 @@ fn printed<S: Strength>(rt: &HostRuntime, path: &str, filler: S) -> Result<Vec<u
             tell_refusal(Fault::OfBook(refusal), &mut output)?;
             Ok(output)
         }
-        Err(BookFault::Memory) => Err(Failure::Memory),
+        Err(BookFault::Memory) => Err(AllocError.into()),
     }
 }
 

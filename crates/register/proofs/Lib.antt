@@ -1,4 +1,5 @@
 mod Answering
+mod Lots
 mod Searches
 mod Sweeps
 mod Telling

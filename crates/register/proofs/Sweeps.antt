@@ -1,14 +1,8 @@
 -- Adding a row to a table, and sweeping rows out of one.
-use Rattle.std.proofs.Common.{Bool, true, false, cond, filter, not, refl, Decides, eqb, ◌≡◌, ℕ, ◌+◌, ◌-◌, ◌<◌, ◌≤◌, List, [], ◌∷◌, ◌++◌, length, get_or, take, drop, set, sym, ap, ◌∙◌, subst, arith, take-append-drop}
-use Rattle.std.proofs.lemmas.Bool.{eq-eqb, eqb-true, false≢true}
+use Rattle.std.proofs.Common.{not, ◌≡◌, ℕ, ◌+◌, ◌-◌, ◌<◌, ◌≤◌, List, [], ◌∷◌, ◌++◌, length, get_or, take, drop, set, sym, ap, ◌∙◌, subst, arith, take-append-drop}
 use Rattle.std.proofs.lemmas.List.{take_more, take_more_set, drop-drop, drop-set-lt, get_or-drop}
-use Rattle.book.specs.declared.rows.Lot.{Lot}
 use Rattle.delegation.specs.Found.{Filtered}
 use Rattle.delegation.specs.Found.Filtered.{none, stays, goes}
-
--- lots are equal where their numbers are
-pub Decides-lot : (a b : Lot) → Decides (eqb a.0 b.0) (a ≡ b)
-Decides-lot a b = ((λ t. let e = eqb-true a.0 b.0 t in λ i. record { 0 = e i }), (λ e. eq-eqb a.0 b.0 (ap (λ (l : Lot). l.0) e)))
 
 -- a write at the end of the first n elements leaves the later ones
 pub pushed : {X : Type 0} (xs : List X) (n : ℕ) (x : X) → set xs n x ≡ take (n + 1) (set xs n x) ++ drop (n + 1) xs
@@ -26,16 +20,6 @@ filtered_goes : {X : Type 0} {P : X → Type 0} {xs ys : List X} (x : X) → (P 
 filtered_goes x p none = goes p none
 filtered_goes x p (stays q f) = stays q (filtered_goes x p f)
 filtered_goes x p (goes q f) = goes q (filtered_goes x p f)
-
--- one element, which a test keeps or not
-filtered_by : {X : Type 0} {P : X → Type 0} {x : X} {xs ys : List X} (b : Bool) → Decides b (P x) → Filtered P xs ys → Filtered P (x ∷ xs) (cond b (x ∷ ys) ys)
-filtered_by true d f = stays (d.0 refl) f
-filtered_by false d f = goes (λ p. false≢true (d.1 p)) f
-
--- what a test keeps that decides P
-pub Filtered-filter : {X : Type 0} (P : X → Type 0) (test : X → Bool) → ((x : X) → Decides (test x) (P x)) → (xs : List X) → Filtered P xs (filter test xs)
-Filtered-filter P test each [] = none
-Filtered-filter P test each (x ∷ xs) = filtered_by (test x) (each x) (Filtered-filter P test each xs)
 
 -- of the first i rows, those with P are the first n of ys; later places are as they were
 abbrev pub Sweeping : {X : Type 0} → (X → Type 0) → List X → List X → ℕ → ℕ → Type 0

@@ -28,12 +28,15 @@ opening lots n =
     ∷ check TooManyLots 0 (length lots ≡ 32)
     ∷ []
 
--- there is no such lot; it is not open
-abbrev pub closing : List Lot → Lot → List Check
-closing lots n =
-    check LotOutOfRange 0 (65535 < n.0)
-    ∷ check LotNotOpen 0 (Memᴰ n lots → ⊥)
+-- there is no such lot; it is not open; both at place i
+abbrev pub on_open_lot : List Lot → Lot → ℕ → List Check
+on_open_lot lots n i =
+    check LotOutOfRange i (65535 < n.0)
+    ∷ check LotNotOpen i (Memᴰ n lots → ⊥)
     ∷ []
+
+abbrev pub closing : List Lot → Lot → List Check
+closing lots n = on_open_lot lots n 0
 
 abbrev pub right_to : {S : Type 0} → Step → S → Right S
 right_to t s = record { step = t; strength = s }
@@ -56,9 +59,7 @@ module _ {S : Type 0} (k : Kind S) (r : Rules S) where
   naming lots i t w n =
       check UnknownStep i (r.steps ≤ t.0)
       ∷ check UnlawfulWord (i + 1) (k.of_word w ≡ None)
-      ∷ check LotOutOfRange (i + 2) (65535 < n.0)
-      ∷ check LotNotOpen (i + 2) (Memᴰ n lots → ⊥)
-      ∷ []
+      ∷ on_open_lot lots n (i + 2)
 
   abbrev pub asking : List Lot → Person → Step → ℕ → Lot → List Check
   asking lots u t w n = nobody 0 u ∷ naming lots 1 t w n

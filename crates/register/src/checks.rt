@@ -1,8 +1,7 @@
 // The checks of calls, in the order of the numbers of their causes.
-ghost use mathlib.Core.List.{Memᴰ};
 ghost use Rattle.std.specs.Prelude.{◌≡◌, ◌<◌, ◌≤◌, length, Some, Decides};
 ghost use Rattle.book.specs.Books.{rules};
-ghost use Rattle.register.specs.Causes.{short_arrays, opening, closing, naming, asking, passing};
+ghost use Rattle.register.specs.Causes.{short_arrays, opening, on_open_lot, naming, asking, passing};
 ghost use Rattle.register.specs.Refusals.{Checks};
 
 use crate::faults::{Cause, Refusal};
@@ -37,14 +36,8 @@ pub fn check_arrays(grants: usize, records: usize) -> Result<(), Refusal>
     Ok(())
 }
 
-/// Whether a lot is one of these.
-fn has_lot(lots: &[Lot], lot: Lot) -> bool
-    ensures { Decides result (Memᴰ lot lots.now) }
-{
-    lots.contains(&lot)
-}
-
 /// Whether a lot may be opened beside these.
+#[tactic(auto, using(crate::proofs::Lots::found_lot))]
 pub(crate) fn check_opening(lots: &[Lot], lot: Lot) -> Result<(), Refusal>
     requires { length lots.now ≤ 32 }
     ensures { Checks (opening lots.now lot) (λ _. length lots.now < 32) result }
@@ -52,7 +45,7 @@ pub(crate) fn check_opening(lots: &[Lot], lot: Lot) -> Result<(), Refusal>
     if lot.0 > LAST_LOT {
         return Err((Cause::LotOutOfRange, 0));
     }
-    if has_lot(lots, lot) {
+    if lots.contains(&lot) {
         return Err((Cause::LotAlreadyOpen, 0));
     }
     if lots.len() == MOST_LOTS {
@@ -61,15 +54,16 @@ pub(crate) fn check_opening(lots: &[Lot], lot: Lot) -> Result<(), Refusal>
     Ok(())
 }
 
-/// Whether a lot may be closed.
-pub(crate) fn check_closing(lots: &[Lot], lot: Lot) -> Result<(), Refusal>
-    ensures { Checks (closing lots.now lot) (λ _. Unit {0}) result }
+/// Whether a lot, which is named at this place, is open.
+#[tactic(auto, using(crate::proofs::Lots::found_lot))]
+pub(crate) fn check_open(lots: &[Lot], lot: Lot, place: usize) -> Result<(), Refusal>
+    ensures { Checks (on_open_lot lots.now lot place) (λ _. Unit {0}) result }
 {
     if lot.0 > LAST_LOT {
-        return Err((Cause::LotOutOfRange, 0));
+        return Err((Cause::LotOutOfRange, place));
     }
-    if !has_lot(lots, lot) {
-        return Err((Cause::LotNotOpen, 0));
+    if !lots.contains(&lot) {
+        return Err((Cause::LotNotOpen, place));
     }
     Ok(())
 }
@@ -90,12 +84,7 @@ fn check_naming<S: Strength>(
     let Some(strength) = S::from_word(named.word) else {
         return Err((Cause::UnlawfulWord, place + 1));
     };
-    if named.lot.0 > LAST_LOT {
-        return Err((Cause::LotOutOfRange, place + 2));
-    }
-    if !has_lot(lots, named.lot) {
-        return Err((Cause::LotNotOpen, place + 2));
-    }
+    check_open(lots, named.lot, place + 2)?;
     Ok(strength)
 }
 

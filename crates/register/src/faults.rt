@@ -33,6 +33,7 @@ pub enum Cause {
     TooManyGrants = 21,
 }
 
+// Each layer has its own causes, and a definition of their numbers: a trait for one cast would be no plainer.
 impl Cause {
     /// The number by which the panels know it.
     pub fn number(self) -> u8
@@ -43,6 +44,7 @@ impl Cause {
 }
 
 /// What a check answers that refuses: the cause, and the place of the argument or the row that it concerns.
+// The checks of every layer answer such pairs; whoever makes a call is told a `RegisterFault`, whose parts have names.
 pub type Refusal = (Cause, usize);
 
 /// The cause of a refused call, and the place of the argument or the row that it concerns.

@@ -1,8 +1,7 @@
 // The checks of a grant against the grants that stand.
-ghost use Rattle.std.specs.Prelude.{ℕ, ◌<◌, ◌≤◌, length, MatchOption};
+ghost use Rattle.std.specs.Prelude.{◌<◌, ◌≤◌, length};
 ghost use Rattle.book.specs.Books.{rules};
-ghost use Rattle.delegation.specs.Found.{First};
-ghost use Rattle.delegation.specs.Rights.{Backed, Forbids};
+ghost use Rattle.delegation.specs.Rights.{Backed};
 ghost use Rattle.register.specs.Causes.{backing, granting, joining};
 ghost use Rattle.register.specs.Refusals.{Checks};
 
@@ -10,13 +9,6 @@ use crate::faults::{Cause, Refusal};
 use book::Book;
 use delegation::{Grant, MOST_GRANTS, backed, first_bar, stands};
 use strength::Strength;
-
-/// The place of the first bar that forbids a grant.
-fn first_forbidding<S: Strength>(book: &Book<S>, grant: Grant<S>) -> Option<usize>
-    ensures { MatchOption result ((p : ℕ) → First (Forbids S.kind (rules book.now) grant) (rules book.now).bars p → ⊥) (First (Forbids S.kind (rules book.now) grant) (rules book.now).bars) }
-{
-    first_bar(book, grant)
-}
 
 /// Whether a right of the giver on the lot backs a grant to somebody else.
 fn check_backing<S: Strength>(
@@ -44,7 +36,7 @@ fn check_joining<S: Strength>(
     requires { length grants.now ≤ 512 }
     ensures { Checks (joining S.kind (rules book.now) grants.now grant) (λ _. length grants.now < 512) result }
 {
-    if let Some(bar) = first_forbidding(book, grant) {
+    if let Some(bar) = first_bar(book, grant) {
         return Err((Cause::Barred, bar));
     }
     if stands(grants, grant) {

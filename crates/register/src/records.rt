@@ -3,7 +3,7 @@
 use book::{Lot, Person, Step};
 
 /// A person performed a step on a lot.
-#[derive(Clone, Copy, Debug, PartialEq, Eq)]
+#[derive(Clone, Copy, Debug, Default, PartialEq, Eq)]
 pub struct Record {
     pub person: Person,
     pub step: Step,

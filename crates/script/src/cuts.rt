@@ -4,6 +4,7 @@ ghost use Rattle.std.specs.Iterator.{YieldsFirstRef, at_most};
 ghost use Rattle.script.specs.Grammar.{lines};
 
 /// What is left of a script. It gives the lines, each without the byte that ends it, which the last may lack.
+// `split` gives an empty line at the end, and with `split_inclusive` the proof did not close: the check fails in what it generates.
 #[derive(Drop)]
 pub(crate) struct Lines<'s>(pub(crate) &'s [u8]);
 

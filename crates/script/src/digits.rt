@@ -2,6 +2,7 @@
 ghost use Rattle.std.specs.Prelude.{◌≡◌, ℕ, ◌^◌, ◌<◌, Some, decimal};
 ghost use Rattle.script.specs.Grammar.{numbered};
 
+// By hand, since the `parse` of the library takes a text, a sign and numbers of 20 digits.
 /// The number that 1 to 19 digits write; nothing for any other text.
 pub(crate) fn number(text: &[u8]) -> Option<u64>
     ensures reads { result ≡ numbered text.now }
@@ -15,7 +16,7 @@ pub(crate) fn number(text: &[u8]) -> Option<u64>
         if !b.is_ascii_digit() {
             return None;
         }
-        n = 10 * n + (*b - b'0') as u64;
+        n = 10 * n + u64::from(*b - b'0');
     }
     Some(n)
 }

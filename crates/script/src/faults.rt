@@ -22,6 +22,7 @@ pub enum Cause {
     ShortBuffer = 45,
 }
 
+// Each layer has its own causes, and a definition of their numbers: a trait for one cast would be no plainer.
 impl Cause {
     /// The number that is told of the cause.
     pub fn number(self) -> u8

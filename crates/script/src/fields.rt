@@ -40,6 +40,7 @@ pub(crate) fn count(line: &[u8]) -> usize
     line.iter().filter(|b| **b == b' ').count()
 }
 
+// Five places, zeros behind the last field: a vector would be asked for its length at each number of a call.
 /// The numbers of the fields after the letter, at most five, or the place of the first that is none.
 pub(crate) fn numbers(line: &[u8]) -> Result<[u64; 5], Refusal>
     requires { length (cut 32 line.now) ≤ 6 }

@@ -1,5 +1,4 @@
 // The line call.
-ghost use Rattle.std.specs.Prelude.{◌≡◌};
 ghost use Rattle.script.specs.Lines.{Asked, Taken};
 ghost use Rattle.script.specs.Parsed.{parsed};
 
@@ -39,9 +38,7 @@ pub fn obey_line<'b, 'g, 'r, S: Strength>(
     line: &[u8],
     out: &mut [u8],
 ) -> Result<Told, LineFault>
-    ensures taken { Taken S.kind number line.now register.old out.old result register.new out.new }
-    ensures lender { register.new.grants.places.ghost_name ≡ register.old.grants.places.ghost_name }
-    ensures recorder { register.new.records.places.ghost_name ≡ register.old.records.places.ghost_name }
+    ensures { Taken S.kind number line.now register.old out.old result register.new out.new }
 {
     if out.len() < LINE_BUFFER {
         let fault = Fault::OfScript((Cause::ShortBuffer, 0));

@@ -11,6 +11,7 @@ use register::Call;
 /// The longest line, without the byte that ends it.
 const LONGEST_LINE: usize = 120;
 
+// Lines name commands, so they are values, matched where something is asked of them, and no closures.
 /// What the first field of a line asks for.
 #[derive(Clone, Copy, Debug, PartialEq, Eq)]
 pub enum Command {

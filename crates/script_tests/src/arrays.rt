@@ -1,7 +1,7 @@
 // Arrays that are too short, and buffers that are.
 
-use crate::support::{EXAMPLE, book_of, some_grant, some_record};
-use register::{MOST_GRANTS, MOST_RECORDS, Register, check_arrays};
+use crate::support::{EXAMPLE, book_of, some_grant};
+use register::{MOST_GRANTS, MOST_RECORDS, Record, Register, check_arrays};
 use script::{LineFault, Told, obey_line};
 use std::process::Abort;
 use std::test::Fail;
@@ -63,7 +63,7 @@ fn short_buffers(rt: HostRuntime) -> Result<(), Fail> {
     };
     let book = book_of::<Reach>(heap, &EXAMPLE)?;
     let mut grants = vec![in heap; some_grant(filler); MOST_GRANTS]?;
-    let mut records = vec![in heap; some_record(); MOST_RECORDS]?;
+    let mut records = vec![in heap; Record::default(); MOST_RECORDS]?;
     let mut register = Register::new(&book, &mut grants, &mut records);
     let mut buffer = [7u8; 1200];
     let mut short = [7u8; 1199];

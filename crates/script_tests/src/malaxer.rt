@@ -9,9 +9,10 @@ use strength::{Band, Pair, Reach};
 /// Count 1 with an empty mask.
 const ONCE: u32 = 16_777_216;
 
+// Alike in both crates of tests: a crate for these few lines would owe contracts and edits of its own.
 /// The word of a pair of a reach and a band, in tenths of a degree.
 fn pair_word(reach: u32, lowest: u16, highest: u16) -> u64 {
-    (highest as u64 * 65_536 + lowest as u64) * 4_294_967_296 + reach as u64
+    (u64::from(highest) * 65_536 + u64::from(lowest)) * 4_294_967_296 + u64::from(reach)
 }
 
 /// A book of 3 people. Person 0 plays the post, which holds the step with count 1 and the band 20.0 to 30.0.

@@ -12,7 +12,7 @@ use strength::Strength;
 /// A book of the press line with 4 people, 2 posts and 3 steps. Persons 0, 1 and 2 have mark 0. Person 0 plays post 0,
 /// and person 3 plays post 1. Step 0 covers steps 1 and 2. Post 0 holds step 0 at count 2. Nobody who plays post 1 is
 /// given step 2 at count 1 or more. Steps 1 and 2 clash.
-// Each crate of tests has an example of its own, and what makes bytes of it.
+// Alike in both crates of tests: a crate for these few lines would owe contracts and edits of its own.
 pub(crate) const EXAMPLE: [u64; 26] = [
     4, 2, 3, 2, 2, 1, 1, 1, 1, 1, 1, 0, 0, 3, 0, 1, 0, 0, 1, 2, 0, 33_554_432, 66, 16_777_216, 1, 2,
 ];
@@ -20,6 +20,7 @@ pub(crate) const EXAMPLE: [u64; 26] = [
 /// Where the example has the strength of its hold.
 pub(crate) const HELD: usize = 21;
 
+// Alike in both crates of tests: a crate for these few lines would owe contracts and edits of its own.
 /// The bytes of these words, least byte first.
 fn bytes(heap: Global, words: &[u64]) -> Result<Vec<u8>, AllocError> {
     words
@@ -43,22 +44,13 @@ pub(crate) fn book_of<S: Strength>(heap: Global, words: &[u64]) -> Result<Book<S
 /// A grant to fill an array with.
 pub(crate) fn some_grant<S: Strength>(filler: S) -> Grant<S> {
     Grant {
-        giver: Person(0),
-        receiver: Person(0),
+        giver: Person::default(),
+        receiver: Person::default(),
         right: Right {
-            step: Step(0),
+            step: Step::default(),
             strength: filler,
         },
-        lot: Lot(0),
-    }
-}
-
-/// A record to fill an array with.
-pub(crate) fn some_record() -> Record {
-    Record {
-        person: Person(0),
-        step: Step(0),
-        lot: Lot(0),
+        lot: Lot::default(),
     }
 }
 
@@ -71,7 +63,7 @@ pub(crate) fn answers<S: Strength>(
 ) -> Result<Vec<u8>, Fail> {
     let book = book_of::<S>(heap, words)?;
     let mut grants = vec![in heap; some_grant(filler); MOST_GRANTS]?;
-    let mut records = vec![in heap; some_record(); MOST_RECORDS]?;
+    let mut records = vec![in heap; Record::default(); MOST_RECORDS]?;
     let mut output = Vec::new(heap);
     let mut register = Register::new(&book, &mut grants, &mut records);
     run(&mut register, script, &mut output)?;

@@ -54,22 +54,27 @@ fn check_tables<S: Strength>(rows: &Rows<S>, plan: Plan) -> Result<(), Refusal>
     requires { plan.sizes ≡ sizes_in (said rows.now) }
     ensures { result_err result ≡ or_else (in_columns S.kind (columns plan.sizes) 8 (drop 8 (words_in S.kind (said rows.now)))) (in_clashes plan.sizes (words_in S.kind (said rows.now))) }
 {
-    let tests = columns_of(plan.sizes);
+    let [
+        marks,
+        people,
+        posts,
+        stronger,
+        weaker,
+        held,
+        held_strengths,
+        barred,
+        barred_strengths,
+        clashing,
+    ] = columns_of(plan.sizes);
     let places = plan.places();
     let last = plan.last();
     let steps = plan.sizes.steps;
-    let marks = check_column::<S, Marks, Whole>(&rows.marks, SIZES, tests[0].test);
-    let plays = check_table::<S, Play>(&rows.plays, places.plays, tests[1].test, tests[2].test);
-    let covers = check_table::<S, Cover>(&rows.covers, places.covers, tests[3].test, tests[4].test);
-    let holds = check_table::<S, Entry<S>>(&rows.holds, places.holds, tests[5].test, tests[6].test);
-    let bars = check_table::<S, Entry<S>>(&rows.bars, places.bars, tests[7].test, tests[8].test);
-    let clashes = check_clash_table::<S>(&rows.clashes, places.clashes, last, tests[9].test, steps);
-    marks
-        .and(plays)
-        .and(covers)
-        .and(holds)
-        .and(bars)
-        .and(clashes)
+    check_column::<S, Marks, Whole>(&rows.marks, SIZES, marks.test)?;
+    check_table::<S, Play>(&rows.plays, places.plays, people.test, posts.test)?;
+    check_table::<S, Cover>(&rows.covers, places.covers, stronger.test, weaker.test)?;
+    check_table::<S, Entry<S>>(&rows.holds, places.holds, held.test, held_strengths.test)?;
+    check_table::<S, Entry<S>>(&rows.bars, places.bars, barred.test, barred_strengths.test)?;
+    check_clash_table::<S>(&rows.clashes, places.clashes, last, clashing.test, steps)
 }
 
 /// Whether rows make a sound book; they are refused as the file is that they would be written to.

@@ -12,26 +12,32 @@ use crate::form::Sizes;
 use crate::layout::Row;
 use crate::plan::Plan;
 use crate::rows::Rows;
-use crate::sizes::SIZES;
 use crate::words::{First, Second, Whole, WordOf};
 use strength::{Marks, Strength};
 
-/// Writes a word at this place.
-fn put_word(out: &mut [u8], place: usize, word: u64)
+/// Writes a word at this place, and answers the place after it.
+fn put_word(out: &mut [u8], place: usize, word: u64) -> usize
     requires { place + 8 ≤ length out.old }
-    ensures { out.new ≡ over out.old place (bytes_of word) }
+    ensures after { out.new ≡ over out.old place (bytes_of word) }
+    ensures value { result ≡ place + 8 }
 {
-    out[place..place + 8].copy_from_slice(&word.to_le_bytes());
+    let end = place + 8;
+    out[place..end].copy_from_slice(&word.to_le_bytes());
+    end
 }
 
-/// Writes a column of words from this place on.
-fn put_column<R: Copy, W: WordOf<R>>(out: &mut [u8], place: usize, rows: &[R])
+// The chunks that as_chunks_mut lends promise nothing of what the slice ends as, so words go to places.
+/// Writes a column of words from this place on, and answers the place after them.
+fn put_column<R: Copy, W: WordOf<R>>(out: &mut [u8], place: usize, rows: &[R]) -> usize
     requires { place + 8 * length rows.now ≤ length out.old }
-    ensures { out.new ≡ over out.old place (spelled (map W.in_row rows.now)) }
+    ensures after { out.new ≡ over out.old place (spelled (map W.in_row rows.now)) }
+    ensures value { result ≡ place + 8 * length rows.now }
 {
-    for (i, row) in rows.iter().enumerate() {
-        put_word(out, place + 8 * i, W::in_row(*row));
+    let mut end = place;
+    for row in rows {
+        end = put_word(out, end, W::in_row(*row));
     }
+    end
 }
 
 /// Writes the two columns of a table from this place on, and answers the place after them.
@@ -40,10 +46,8 @@ fn put_table<R: Row>(out: &mut [u8], place: usize, rows: &[R]) -> usize
     ensures after { out.new ≡ over out.old place (spelled (flat R.layout rows.now)) }
     ensures value { result ≡ place + 16 * length rows.now }
 {
-    let middle = place + 8 * rows.len();
-    put_column::<R, First>(out, place, rows);
-    put_column::<R, Second>(out, middle, rows);
-    middle + 8 * rows.len()
+    let middle = put_column::<R, First>(out, place, rows);
+    put_column::<R, Second>(out, middle, rows)
 }
 
 impl<S> Rows<S> {
@@ -84,9 +88,9 @@ pub fn write<S: Strength>(book: &Book<S>, out: &mut [u8]) -> Result<usize, Refus
     if out.len() < due {
         return Err((Cause::ShortBuffer, due));
     }
-    put_column::<u64, Whole>(out, 0, &plan.sizes.listed());
-    put_column::<Marks, Whole>(out, 8 * SIZES, &book.rows.marks);
-    let place = put_table(out, 8 * plan.places().plays, &book.rows.plays);
+    let place = put_column::<u64, Whole>(out, 0, &plan.sizes.listed());
+    let place = put_column::<Marks, Whole>(out, place, &book.rows.marks);
+    let place = put_table(out, place, &book.rows.plays);
     let place = put_table(out, place, &book.rows.covers);
     let place = put_table(out, place, &book.rows.holds);
     let place = put_table(out, place, &book.rows.bars);

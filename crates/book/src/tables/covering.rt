@@ -6,12 +6,11 @@ ghost use Rattle.book.specs.Passing.{AllPassed, OnlyPassed, OnlySelves, RowPasse
 
 use super::raise;
 use crate::rows::{Cover, Step};
+use crate::sizes::MOST_STEPS;
 use std::alloc::{AllocError, Global};
 
-const STEPS: usize = 64;
-
 /// For each step, which steps it covers.
-pub(crate) type Covering = [[bool; STEPS]; STEPS];
+pub(crate) type Covering = [[bool; MOST_STEPS]; MOST_STEPS];
 
 // Each step covers itself.
 fn mark_selves(table: &mut Covering)
@@ -25,7 +24,7 @@ fn mark_selves(table: &mut Covering)
 }
 
 // Where a step that covers these covers the stronger step, it covers the weaker one; whether that is new.
-fn pass_step(covered: &mut [bool; STEPS], stronger: usize, weaker: usize) -> bool
+fn pass_step(covered: &mut [bool; MOST_STEPS], stronger: usize, weaker: usize) -> bool
     requires { (stronger < 64) × (weaker < 64) }
     ensures only { (b : ℕ) → Raised covered.new b → Raised covered.old b ⊎ ((b ≡ weaker) × Raised covered.old stronger) }
     ensures grows { (b : ℕ) → Raised covered.old b → Raised covered.new b }
@@ -60,6 +59,7 @@ fn pass_row(row: Cover, table: &mut Covering) -> bool
     changed
 }
 
+// Rows in range are no type: one would be made just once, of rows that the book's check has passed, and would ask the same.
 // One pass of each row; whether the table changed.
 fn pass_rows(rows: &[Cover], table: &mut Covering) -> bool
     requires range { StepsInRange rows.now }
@@ -93,7 +93,7 @@ pub(crate) fn covering_table(heap: Global, rows: &[Cover]) -> Result<Box<Coverin
     requires { StepsInRange rows.now }
     ensures { IfOk result (λ b. CoveringExact rows.now b.value) }
 {
-    let mut table = Box::new(heap, [[false; STEPS]; STEPS])?;
+    let mut table = Box::new(heap, [[false; MOST_STEPS]; MOST_STEPS])?;
     mark_selves(&mut table);
     close(rows, &mut table);
     Ok(table)
@@ -105,7 +105,7 @@ pub(crate) fn covers(table: &Covering, stronger: Step, weaker: Step) -> bool
 {
     let a = stronger.0 as usize;
     let b = weaker.0 as usize;
-    if a < STEPS && b < STEPS {
+    if a < MOST_STEPS && b < MOST_STEPS {
         table[a][b]
     } else {
         a == b

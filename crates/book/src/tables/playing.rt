@@ -5,14 +5,11 @@ ghost use Rattle.book.specs.Playing.{PlayingExact, Plays, PlaysInRange, TellsPla
 
 use super::raise;
 use crate::rows::{Person, Play, Post};
+use crate::sizes::{MOST_PEOPLE, MOST_POSTS};
 use std::alloc::{AllocError, Global};
 
-const PEOPLE: usize = 256;
-
-const POSTS: usize = 64;
-
 /// For each person, which posts they play.
-pub(crate) type Playing = [[bool; POSTS]; PEOPLE];
+pub(crate) type Playing = [[bool; MOST_POSTS]; MOST_PEOPLE];
 
 // Raises in a clear table the flag of each row.
 fn fill(rows: &[Play], table: &mut Playing)
@@ -30,7 +27,7 @@ pub(crate) fn playing_table(heap: Global, rows: &[Play]) -> Result<Box<Playing>,
     requires { PlaysInRange rows.now }
     ensures { IfOk result (λ b. PlayingExact rows.now b.value) }
 {
-    let mut table = Box::new(heap, [[false; POSTS]; PEOPLE])?;
+    let mut table = Box::new(heap, [[false; MOST_POSTS]; MOST_PEOPLE])?;
     fill(rows, &mut table);
     Ok(table)
 }
@@ -41,5 +38,5 @@ pub(crate) fn plays(table: &Playing, person: Person, post: Post) -> bool
 {
     let u = person.0 as usize;
     let p = post.0 as usize;
-    u < PEOPLE && p < POSTS && table[u][p]
+    u < MOST_PEOPLE && p < MOST_POSTS && table[u][p]
 }

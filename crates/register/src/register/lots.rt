@@ -5,7 +5,7 @@ ghost use Rattle.register.specs.Shape.{Called, Cleared};
 ghost use Rattle.register.specs.declared.calls.Call.TheVariants.{Open, Close};
 
 use super::Register;
-use crate::checks::{MOST_LOTS, check_closing, check_opening};
+use crate::checks::{MOST_LOTS, check_open, check_opening};
 use crate::faults::RegisterFault;
 use arrayvec::ArrayVec;
 use book::Lot;
@@ -43,7 +43,7 @@ impl<'b, 'g, 'r, S: Strength> Register<'b, 'g, 'r, S> {
     pub fn close_lot(&mut self, lot: Lot) -> Result<u64, RegisterFault>
         ensures { Called S.kind (Close lot) result self.old self.new }
     {
-        check_closing(self.lots.as_slice(), lot)?;
+        check_open(self.lots.as_slice(), lot, 0)?;
         Ok(self.clear_lot(lot))
     }
 }

@@ -6,4 +6,4 @@ use Rattle.delegation.proofs.standing.stands.Goals as goal
 pub returns : goal.returns
 returns g c =
     let k = g.S.Strength.kind in
-    member_from_contains (same k) (decides_same k g.met.S.Strength.reads_back) c.args.grants.now c.args.grant c.contains.result c.contains.ensures.cases
+    member_from_contains (same k) (decides_same k g.met.S.Strength.reads_back) c.args.grants.now c.args.grant c.contains.ensures.value

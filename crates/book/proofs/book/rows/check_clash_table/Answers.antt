@@ -1,11 +1,10 @@
 use Rattle.std.proofs.lemmas.Result.{err_from_is_err_and}
-use Rattle.book.proofs.RowChecks.{or_found, or_passed}
 use Rattle.book.proofs.book.rows.check_clash_table.Goals as goal
 
 pub returns-in_err-check_column : goal.returns-in_err-check_column
 returns-in_err-check_column g c =
     let p = err_from_is_err_and c.from_residual.result c.from_residual.ensures.1 in
-    rw (p.1, p.2) (or_found _ _ c.in_err-check_column.ensures)
+    rw (p.1, p.2, ← c.in_err-check_column.ensures)
 
 pub returns : goal.returns
-returns g c = or_passed _ _ c.in_ok-check_column.ensures c.check_clashes.ensures
+returns g c = rw (← c.in_ok-check_column.ensures) c.check_clashes.ensures

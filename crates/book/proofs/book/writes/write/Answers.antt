@@ -1,8 +1,6 @@
 use Rattle.std.proofs.Common.{◌≡◌, ℕ, ◌+◌, ◌*◌, ◌<◌, ◌≤◌, List, ◌++◌, map, length, drop, sym, refl, ap, ◌∙◌, subst, arith}
 use Rattle.strength.specs.declared.values.Marks.{Marks}
 use Rattle.book.specs.declared.faults.Cause.TheVariants.{ShortBuffer}
-use Rattle.book.specs.declared.form.Places.{Places}
-use Rattle.book.specs.declared.form.Sizes.{Sizes}
 use Rattle.book.specs.Over.{over}
 use Rattle.book.specs.Words.{spelled}
 use Rattle.book.specs.Layouts.{flat, play_layout, cover_layout, entry_layout, clash_layout}
@@ -22,11 +20,6 @@ returns-then-out-due g c =
       rereads = rereads g.S.Strength.kind g.met.S.Strength.reads_back g.met.S.Strength.bounded c.args.book.now;
     }
 
-pub put_column-requires-2 : goal.put_column-requires-2
-put_column-requires-2 g c =
-    let p : length c.deref.result.now ≡ c.plan-plan.result.sizes.people = ap length c.deref.ensures.value ∙ sym (ap (λ (s : Sizes). s.people) c.plan-plan.ensures) in
-    omega arith
-
 pub returns : goal.returns
 returns g c =
     let k = g.S.Strength.kind in
@@ -34,19 +27,20 @@ returns g c =
     let s = c.plan-plan.result.sizes in
     let v = c.plan-plan.ensures in
     let d = c.due-due.ensures ∙ ap due v in
-    let at : c.places.result.plays ≡ 8 + s.people = ap (λ (q : Places). q.plays) c.places.ensures in
-    let people : s.people ≡ length r.marks = ap (λ (t : Sizes). t.people) v in
+    let sizes : length c.listed.result ≡ 8 = ap length c.listed.ensures in
+    let at : c.put_column-place.result ≡ 64 = omega (arith, sizes, c.put_column-place.ensures.value) in
     record {
       rereads = rereads k g.met.S.Strength.reads_back g.met.S.Strength.bounded c.args.book.now;
       writes = (
         d ∙ sym (written_long k r),
         c.if-out-due.false,
         written_over k r c.args.out.now (subst (λ n. n ≤ length c.args.out.now) d c.if-out-due.false)
-            (c.put_column.ensures ∙ ap (λ (ws : List ℕ). over c.args.out.now 0 (spelled (map (λ w. w) ws))) (c.listed.ensures ∙ ap listed_sizes v))
-            (c.put_column-2.ensures ∙ ap (λ (ms : List Marks). over c.put_column.new.out 64 (spelled (map (λ m. m.0) ms))) c.deref.ensures.value)
-            (omega (arith, people, at))
-            (c.put_table-place.ensures.after ∙ ap (λ rs. over c.put_column-2.new.out (8 * c.places.result.plays) (spelled (flat play_layout rs))) c.deref-2.ensures.value)
-            (c.put_table-place.ensures.value ∙ ap (λ rs. 8 * c.places.result.plays + 16 * length rs) c.deref-2.ensures.value)
+            (c.put_column-place.ensures.after ∙ ap (λ (ws : List ℕ). over c.args.out.now 0 (spelled (map (λ w. w) ws))) (c.listed.ensures ∙ ap listed_sizes v))
+            (c.put_column-place-2.ensures.after ∙ ap (λ (ms : List Marks). over c.put_column-place.new.out c.put_column-place.result (spelled (map (λ m. m.0) ms))) c.deref.ensures.value
+            ∙ ap (λ p. over c.put_column-place.new.out p (spelled (map (λ m. m.0) r.marks))) at)
+            (c.put_column-place-2.ensures.value ∙ ap (λ (ms : List Marks). c.put_column-place.result + 8 * length ms) c.deref.ensures.value ∙ ap (λ p. p + 8 * length r.marks) at)
+            (c.put_table-place.ensures.after ∙ ap (λ rs. over c.put_column-place-2.new.out c.put_column-place-2.result (spelled (flat play_layout rs))) c.deref-2.ensures.value)
+            (c.put_table-place.ensures.value ∙ ap (λ rs. c.put_column-place-2.result + 16 * length rs) c.deref-2.ensures.value)
             (c.put_table-place-2.ensures.after ∙ ap (λ rs. over c.put_table-place.new.out c.put_table-place.result (spelled (flat cover_layout rs))) c.deref-3.ensures.value)
             (c.put_table-place-2.ensures.value ∙ ap (λ rs. c.put_table-place.result + 16 * length rs) c.deref-3.ensures.value)
             (c.put_table-place-3.ensures.after ∙ ap (λ rs. over c.put_table-place-2.new.out c.put_table-place-2.result (spelled (flat (entry_layout k) rs))) c.deref-4.ensures.value)
