@@ -9,7 +9,6 @@ mod LeastWitness
 pub mod Members
 mod Overs
 mod Passes
-mod Pushed
 mod Raised
 mod Ranges
 mod Rereading

@@ -45,6 +45,7 @@ pub enum BookFault {
     Memory,
 }
 
+// By hand, since the clause says which fault `?` makes; a derive would promise nothing of it.
 impl From<Refusal> for BookFault {
     ghost from_gives = { λ p r. r ≡ Refused p };
 
@@ -53,6 +54,7 @@ impl From<Refusal> for BookFault {
     }
 }
 
+// By hand, since the clause says which fault `?` makes; a derive would promise nothing of it.
 impl From<AllocError> for BookFault {
     ghost from_gives = { λ _ r. r ≡ Memory };
 

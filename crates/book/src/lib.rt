@@ -19,6 +19,7 @@ pub use book::reads::read;
 pub use book::rereads::reread;
 pub use book::writes::write;
 pub use faults::{BookFault, Cause, Refusal};
+pub use form::Limit;
 pub use keys::Key;
 pub use rows::{Clash, Cover, Entry, Lot, Person, Play, Post, Rows, Step};
-pub use sizes::{MOST_BYTES, MOST_PEOPLE, MOST_POSTS, MOST_STEPS};
+pub use sizes::{MOST_BYTES, MOST_PEOPLE, MOST_POSTS, MOST_STEPS, SIZES, size_limits};

@@ -5,9 +5,10 @@ ghost use Rattle.book.specs.Form.{columns, limits, listed_sizes, sizes_of};
 
 use crate::form::{Column, Limit, Sizes, Test};
 use crate::words::{Whole, WordOf};
+use strength::Marks;
 
 /// How many sizes a book begins with.
-pub(crate) const SIZES: usize = 8;
+pub const SIZES: usize = 8;
 
 /// How many people a book has at most.
 pub const MOST_PEOPLE: usize = 256;
@@ -21,11 +22,8 @@ pub const MOST_STEPS: usize = 64;
 /// How many bytes a sound book has at most.
 pub const MOST_BYTES: usize = 38_976;
 
-// People have 24 marks.
-const MARKS: u64 = 16_777_216;
-
 /// The limits of the sizes, in file order.
-pub(crate) fn size_limits() -> [Limit; SIZES]
+pub fn size_limits() -> [Limit; SIZES]
     ensures { result ≡ limits }
 {
     [
@@ -81,7 +79,7 @@ pub(crate) fn columns_of(sizes: Sizes) -> [Column; 10]
     } = sizes;
     [
         Column {
-            test: Test::Below(MARKS),
+            test: Test::Below(u64::from(Marks::LIMIT)),
             size: people,
         },
         Column {

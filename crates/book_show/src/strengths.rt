@@ -21,9 +21,6 @@ impl<S: Describe> fmt::Display for Described<S> {
     }
 }
 
-// The greatest count stands for any number.
-const WITHOUT_LIMIT: u8 = 255;
-
 #[derive(Drop)]
 struct CountShown(Count);
 
@@ -31,10 +28,10 @@ impl fmt::Display for CountShown {
     ghost output = { λ c. Some (if nat_eq c.0.0 255 then codes "count without limit" else codes "count " ++ decimal c.0.0) };
 
     fn fmt<W: fmt::Write>(&self, f: &mut fmt::Formatter<W>) -> fmt::Result {
-        let count = self.0.0;
-        if count == WITHOUT_LIMIT {
+        if self.0 == Count::UNLIMITED {
             return write!(f, "count without limit");
         }
+        let count = self.0.0;
         write!(f, "count {count}")
     }
 }

@@ -6,7 +6,7 @@ use std::alloc::Global;
 use std::test::Fail;
 use strength::{Band, Count, Marks, Pair, Reach, Strength, Tenths};
 
-// Alike in both crates of tests: a crate for these few lines would owe contracts and edits of its own.
+// Alike in both crates of tests: one more crate would be longer than these few lines.
 /// The word of a pair of a reach and a band.
 fn pair_word(reach: u32, lowest: u16, highest: u16) -> u64 {
     (u64::from(highest) * 65_536 + u64::from(lowest)) * 4_294_967_296 + u64::from(reach)

@@ -16,7 +16,7 @@ use strength::Strength;
 /// | 20, 21 | key and strength of the hold |
 /// | 22, 23 | key and strength of the bar |
 /// | 24, 25 | steps of the clash |
-// Alike in both crates of tests: a crate for these few lines would owe contracts and edits of its own.
+// Alike in both crates of tests: one more crate would be longer than these few lines.
 pub(crate) const EXAMPLE: [u64; 26] = [
     4, 2, 3, 2, 2, 1, 1, 1, 1, 1, 1, 0, 0, 3, 0, 1, 0, 0, 1, 2, 0, 33_554_432, 66, 16_777_216, 1, 2,
 ];
@@ -24,7 +24,7 @@ pub(crate) const EXAMPLE: [u64; 26] = [
 /// How many bytes the example has.
 pub(crate) const LENGTH: usize = 208;
 
-// Alike in both crates of tests: a crate for these few lines would owe contracts and edits of its own.
+// Alike in both crates of tests: one more crate would be longer than these few lines.
 /// The bytes of these words, least byte first.
 pub(crate) fn bytes(heap: Global, words: &[u64]) -> Result<Vec<u8>, AllocError> {
     words
@@ -33,6 +33,7 @@ pub(crate) fn bytes(heap: Global, words: &[u64]) -> Result<Vec<u8>, AllocError> 
         .collect(heap)
 }
 
+// Alike in both crates of tests: one more crate would be longer than these few lines.
 /// A book that has to be there.
 pub(crate) fn made<S: Strength>(book: Result<Book<S>, BookFault>) -> Result<Book<S>, Fail> {
     match book {

@@ -18,7 +18,7 @@ pub fn first_bar<S: Strength>(book: &Book<S>, grant: Grant<S>) -> Option<usize>
     let right = grant.right;
     let rows = book.rows();
     let mut place = None;
-    // A rule of the project has this form: labelled loops, left at the first row that forbids.
+    // Labelled loops, as docs/DECISIONS.md says: left at the first row that forbids, what is dear tested last.
     'bars: for (i, bar) in rows.bars.iter().enumerate() {
         if !gives(book, right, Right::from(*bar)) {
             continue 'bars;

@@ -9,7 +9,7 @@ use arrayvec::ArrayVec;
 use book::Book;
 use strength::Strength;
 
-// Clauses on slices say it: a type would be made at each call, of rows the register keeps few.
+// Contracts of functions on slices say this bound: a type would be made at each call, of rows that are few already.
 /// At most this many grants stand in a register.
 pub const MOST_GRANTS: usize = 512;
 
@@ -26,7 +26,7 @@ fn leads<S: Strength>(book: &Book<S>, earlier: Option<Grant<S>>, grant: Grant<S>
     }
 }
 
-// Flags in fixed arrays beside the grants, as a withdrawal must not fail for want of memory.
+// The flags lie beside the grants, in arrays of fixed size that callers have: a withdrawal must not want for memory.
 /// Flags and queues each grant that is not gone and may come next.
 fn reach<S: Strength>(
     book: &Book<S>,

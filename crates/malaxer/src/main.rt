@@ -8,8 +8,5 @@ use strength::{Band, Count, Marks, Pair, Reach, Tenths};
 fn main(rt: HostRuntime) -> ExitCode {
     let reach = Reach::new(Count(0), Marks(0)).unwrap();
     let band = Band::new(Tenths(0), Tenths(0)).unwrap();
-    match serve(&rt, "malax.book", Pair::new(reach, band)) {
-        Ok(()) => ExitCode::SUCCESS,
-        Err(_) => ExitCode::FAILURE,
-    }
+    serve(&rt, "malax.book", Pair::new(reach, band))
 }

@@ -4,7 +4,7 @@ use std::io;
 use thiserror::Error;
 
 #[derive(Debug, Drop, Error)]
-pub enum Failure {
+pub(crate) enum Failure {
     /// There is no memory.
     #[error("there is no memory")]
     Memory(#[from] AllocError),

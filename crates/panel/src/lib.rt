@@ -4,5 +4,4 @@
 mod failure;
 mod work;
 
-pub use failure::Failure;
 pub use work::serve;

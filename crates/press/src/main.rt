@@ -7,8 +7,5 @@ use strength::{Count, Marks, Reach};
 
 fn main(rt: HostRuntime) -> ExitCode {
     let filler = Reach::new(Count(0), Marks(0)).unwrap();
-    match serve(&rt, "press.book", filler) {
-        Ok(()) => ExitCode::SUCCESS,
-        Err(_) => ExitCode::FAILURE,
-    }
+    serve(&rt, "press.book", filler)
 }

@@ -1,5 +1,5 @@
 -- From the checks of a call to its reply and to what it leaves.
-use Rattle.std.proofs.Common.{◌≡◌, ℕ, List, [], ◌∷◌, ◌++◌, Some, Ok, Err, Option, Result, sym, refl, ap, ◌∙◌, subst, inl, inr, take-append-drop}
+use Rattle.std.proofs.Common.{IsErrAnd, ◌≡◌, ℕ, List, [], ◌∷◌, ◌++◌, Some, Ok, Err, Option, Result, sym, refl, subst, inl, inr, take-append-drop}
 use Rattle.strength.specs.Kind.{Kind}
 use Rattle.book.specs.Books.{rules}
 use Rattle.book.specs.Rules.{Rules}
@@ -12,7 +12,7 @@ use Rattle.delegation.specs.declared.grants.Grant.{Grant}
 use Rattle.register.specs.Answers.{Answers}
 use Rattle.register.specs.Answers.Answers.{refused, granted, told_yes, told_no}
 use Rattle.register.specs.Causes.{causes, grant_of, right_to, with_strength}
-use Rattle.register.specs.Refusals.{Allowed, Check, Checks, Refused}
+use Rattle.register.specs.Refusals.{Allowed, Check, Refused}
 use Rattle.register.specs.Replies.{Says}
 use Rattle.register.specs.Shape.{Called, SameArray, rows, state_of}
 use Rattle.register.specs.State.{State}
@@ -32,12 +32,10 @@ pub unchanged : {S : Type 0} (k : Kind S) (c : Call) (e : Result ℕ RegisterFau
 unchanged k c e b a = record { answer = a; grants = same_array b.grants; records = same_array b.records; book = refl }
 
 -- a refusal leaves all as it was
-pub refuses : {S : Type 0} (k : Kind S) (c : Call) (r : Result ℕ RegisterFault) (b : Register S) (e : Cause × ℕ) →
-    (f : RegisterFault) × (r ≡ Err f) × (f ≡ record { cause = e.0; place = e.1 }) →
-    Refused (causes k (rules b.book.now) (state_of b) c) e.0 e.1 → Called k c r b b
-refuses k c r b e was h =
-    let P = λ (x : Result ℕ RegisterFault). Called k c x b b in
-    subst P (sym (was.1 ∙ ap Err was.2)) (unchanged k c (Err (record { cause = e.0; place = e.1 })) b (refused h))
+pub refuses : {S : Type 0} (k : Kind S) (c : Call) (r : Result ℕ RegisterFault) (b : Register S) (e : RegisterFault) →
+    IsErrAnd r (λ f. f ≡ e) → Refused (causes k (rules b.book.now) (state_of b) c) e.cause e.place → Called k c r b b
+refuses k c (Ok n) b e is h = absurd is
+refuses k c (Err f) b e is h = subst (λ (x : RegisterFault). Called k c (Err x) b b) (sym is) (unchanged k c (Err e) b (refused h))
 
 -- checks after checks
 pub refused_first : (xs ys : List Check) (n : Cause) (p : ℕ) → Refused xs n p → Refused (xs ++ ys) n p
@@ -52,10 +50,6 @@ refused_then (x ∷ xs) ys n p a h = inr (a.0, refused_then xs ys n p a.1 h)
 pub allowed_then : (xs ys : List Check) → Allowed xs → Allowed ys → Allowed (xs ++ ys)
 allowed_then [] ys a b = b
 allowed_then (x ∷ xs) ys a b = (a.0, allowed_then xs ys a.1 b)
-
-pub checks_then : {X : Type 0} (xs ys : List Check) (Q : Type 0) (P : X → Type 0) (r : Result X (Cause × ℕ)) → Allowed xs → Q → Checks ys P r → Checks (xs ++ ys) (λ x. Q × P x) r
-checks_then xs ys Q P (Ok x) a q h = (allowed_then xs ys a h.0, (q, h.1))
-checks_then xs ys Q P (Err e) a q h = refused_then xs ys e.0 e.1 a h
 
 -- a grant is accepted
 pub grants_it : {S : Type 0} (k : Kind S) (b : Register S) (gs : List (Grant S)) (g u : Person) (t : Step) (w : ℕ) (n : Lot) (s : S) (m : ℕ) →

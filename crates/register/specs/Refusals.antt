@@ -2,6 +2,7 @@
 use Rattle.std.specs.Prelude.{◌≡◌, ℕ, ◌≤◌, ◌⊎◌, List, [], ◌∷◌, Ok, Err, Result}
 use Rattle.register.specs.Numbers.{number}
 use Rattle.register.specs.declared.faults.Cause.{Cause}
+use Rattle.register.specs.declared.faults.RegisterFault.{RegisterFault}
 
 -- a check: the cause that it tells, and the place at which the cause holds, if it does
 pub record Check : Type 1 where
@@ -31,9 +32,9 @@ Allowed [] = Unit {0}
 Allowed (c ∷ cs) = Absent c × Allowed cs
 
 -- what checks answer: the first cause that holds, or that none does, with what P says
-abbrev pub Checks : {X : Type 0} → List Check → (X → Type 0) → Result X (Cause × ℕ) → Type 0
+abbrev pub Checks : {X : Type 0} → List Check → (X → Type 0) → Result X RegisterFault → Type 0
 Checks cs P (Ok x) = Allowed cs × P x
-Checks cs P (Err e) = Refused cs e.0 e.1
+Checks cs P (Err e) = Refused cs e.cause e.place
 
 -- no number is below n, nor below the one before it
 abbrev pub RisingFrom : ℕ → List Check → Type 0

@@ -41,11 +41,15 @@ impl Cause {
     {
         self as u8
     }
-}
 
-/// What a check answers that refuses: the cause, and the place of the argument or the row that it concerns.
-// The checks of every layer answer such pairs; whoever makes a call is told a `RegisterFault`, whose parts have names.
-pub type Refusal = (Cause, usize);
+    /// The fault of which it is the cause, at this place.
+    pub(crate) fn at(self, place: usize) -> RegisterFault
+        ensures cause { result.cause ≡ self }
+        ensures place { result.place ≡ place }
+    {
+        RegisterFault { cause: self, place }
+    }
+}
 
 /// The cause of a refused call, and the place of the argument or the row that it concerns.
 #[derive(Clone, Copy, Debug, PartialEq, Eq)]
@@ -60,13 +64,5 @@ impl RegisterFault {
         ensures { result ≡ number self.cause }
     {
         self.cause.number()
-    }
-}
-
-impl From<Refusal> for RegisterFault {
-    ghost from_gives = { λ p r. r ≡ record { cause = p.0; place = p.1 } };
-
-    fn from((cause, place): Refusal) -> RegisterFault {
-        RegisterFault { cause, place }
     }
 }

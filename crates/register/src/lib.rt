@@ -5,7 +5,6 @@
 mod calls;
 mod checks;
 mod faults;
-mod granting;
 mod records;
 mod register;
 mod table;
@@ -13,6 +12,6 @@ mod table;
 pub use calls::Call;
 pub use checks::{MOST_RECORDS, check_arrays};
 pub use delegation::MOST_GRANTS;
-pub use faults::{Cause, Refusal, RegisterFault};
+pub use faults::{Cause, RegisterFault};
 pub use records::Record;
 pub use register::Register;

@@ -1,8 +1,10 @@
 // What a register holds.
 
+mod granting;
 mod grants;
 mod lots;
 mod making;
+mod naming;
 mod sending;
 
 use crate::checks::{MOST_LOTS, MOST_RECORDS};

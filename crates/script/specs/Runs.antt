@@ -1,6 +1,9 @@
 -- What a script does to a register, and what is written of it.
 use Rattle.std.specs.Prelude.{◌≡◌, ℕ, ◌+◌, ◌<◌, ◌≤◌, ◌⊎◌, List, [], ◌∷◌, ◌++◌, length, Err, Result}
 use Rattle.strength.specs.Kind.{Kind}
+use Rattle.book.specs.declared.book.Book.{Book}
+use Rattle.register.specs.Shape.{state_of}
+use Rattle.register.specs.State.{empty}
 use Rattle.register.specs.declared.register.Register.{Register}
 use Rattle.script.specs.declared.faults.Cause.TheVariants.{LongScript}
 use Rattle.script.specs.declared.faults.Fault.{Fault}
@@ -36,3 +39,11 @@ pub record RanLine {S : Type 0} (k : Kind S) (n : ℕ) (line : List ℕ) (before
   pub reply : Result ℕ Fault
   pub asked : Asked k (parsed line) before reply after
   pub told : held' ≡ held ++ spoken n reply
+
+-- what a script is answered under a book, by a register in which nothing stood
+pub record Answered {S : Type 0} (k : Kind S) (book : Book S) (script : List ℕ) (text : List ℕ) : Type 0 where
+  pub before : Register S
+  pub after : Register S
+  pub of_book : before.book.now ≡ book
+  pub nothing : state_of before ≡ empty S
+  pub ran : RanScript k script before [] after text

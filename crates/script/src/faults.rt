@@ -50,6 +50,7 @@ pub struct LineFault {
     pub fault: Fault,
 }
 
+// By hand, since the clause says which fault `?` makes; a derive would promise nothing of it.
 impl From<Refusal> for Fault {
     ghost from_gives = { λ p r. r ≡ OfScript p };
 
@@ -58,6 +59,7 @@ impl From<Refusal> for Fault {
     }
 }
 
+// By hand, since the clause says which fault `?` makes; a derive would promise nothing of it.
 impl From<RegisterFault> for Fault {
     ghost from_gives = { λ p r. r ≡ OfRegister p };
 

@@ -6,7 +6,7 @@ ghost use Rattle.script.specs.Fields.{field_of};
 use crate::digits::number;
 use crate::faults::{Cause, Refusal};
 
-// The project's form of a field: number or word, borrowing the script's bytes, told with its place.
+// An enum of its own, as docs/DECISIONS.md says: number or word, borrowing the script's bytes, told with its place.
 /// A field of a line: a part of the script itself, with its place after the letter, from 0.
 #[derive(Clone, Copy, Debug, PartialEq, Eq)]
 pub enum Field<'s> {

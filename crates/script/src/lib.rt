@@ -9,8 +9,10 @@ mod lines;
 mod output;
 mod parsing;
 mod runs;
+mod whole;
 
 pub use faults::{Cause, Fault, LineFault, Refusal};
 pub use lines::{LINE_BUFFER, Told, obey_line};
 pub use parsing::parse;
 pub use runs::{LONGEST_SCRIPT, run, tell_refusal};
+pub use whole::answers;

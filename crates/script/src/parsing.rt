@@ -21,7 +21,7 @@ pub enum Command {
     Granting,
 }
 
-// The project's form of a command: the first byte as a char, matched against char literals.
+// One match on chars, as docs/DECISIONS.md says: a letter and its command stand side by side.
 impl TryFrom<char> for Command {
     type Error = Refusal;
 

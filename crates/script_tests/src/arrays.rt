@@ -1,6 +1,8 @@
 // Arrays that are too short, and buffers that are.
 
-use crate::support::{EXAMPLE, book_of, some_grant};
+use crate::support::{EXAMPLE, book_of};
+use book::{Lot, Person, Step};
+use delegation::{Grant, Right};
 use register::{MOST_GRANTS, MOST_RECORDS, Record, Register, check_arrays};
 use script::{LineFault, Told, obey_line};
 use std::process::Abort;
@@ -9,7 +11,7 @@ use strength::{Count, Marks, Reach};
 
 /// What the lengths of two arrays are told, by number.
 fn told(grants: usize, records: usize) -> Result<(), (u8, usize)> {
-    check_arrays(grants, records).map_err(|(cause, place)| (cause.number(), place))
+    check_arrays(grants, records).map_err(|fault| (fault.number(), fault.place))
 }
 
 #[test]
@@ -62,7 +64,17 @@ fn short_buffers(rt: HostRuntime) -> Result<(), Fail> {
         return Err(Fail::new("no reach"));
     };
     let book = book_of::<Reach>(heap, &EXAMPLE)?;
-    let mut grants = vec![in heap; some_grant(filler); MOST_GRANTS]?;
+    let right = Right {
+        step: Step(0),
+        strength: filler,
+    };
+    let grant = Grant {
+        giver: Person(0),
+        receiver: Person(0),
+        right,
+        lot: Lot(0),
+    };
+    let mut grants = vec![in heap; grant; MOST_GRANTS]?;
     let mut records = vec![in heap; Record::default(); MOST_RECORDS]?;
     let mut register = Register::new(&book, &mut grants, &mut records);
     let mut buffer = [7u8; 1200];

@@ -1,9 +1,7 @@
 // The book that most tests use, and how a script is held to the answers that are due.
 
-use book::{Book, BookFault, Lot, Person, Step, read};
-use delegation::{Grant, Right};
-use register::{MOST_GRANTS, MOST_RECORDS, Record, Register};
-use script::run;
+use book::{Book, BookFault, read};
+use script::answers;
 use std::alloc::{AllocError, Global};
 use std::process::Abort;
 use std::test::Fail;
@@ -12,7 +10,7 @@ use strength::Strength;
 /// A book of the press line with 4 people, 2 posts and 3 steps. Persons 0, 1 and 2 have mark 0. Person 0 plays post 0,
 /// and person 3 plays post 1. Step 0 covers steps 1 and 2. Post 0 holds step 0 at count 2. Nobody who plays post 1 is
 /// given step 2 at count 1 or more. Steps 1 and 2 clash.
-// Alike in both crates of tests: a crate for these few lines would owe contracts and edits of its own.
+// Alike in both crates of tests: one more crate would be longer than these few lines.
 pub(crate) const EXAMPLE: [u64; 26] = [
     4, 2, 3, 2, 2, 1, 1, 1, 1, 1, 1, 0, 0, 3, 0, 1, 0, 0, 1, 2, 0, 33_554_432, 66, 16_777_216, 1, 2,
 ];
@@ -20,7 +18,7 @@ pub(crate) const EXAMPLE: [u64; 26] = [
 /// Where the example has the strength of its hold.
 pub(crate) const HELD: usize = 21;
 
-// Alike in both crates of tests: a crate for these few lines would owe contracts and edits of its own.
+// Alike in both crates of tests: one more crate would be longer than these few lines.
 /// The bytes of these words, least byte first.
 fn bytes(heap: Global, words: &[u64]) -> Result<Vec<u8>, AllocError> {
     words
@@ -29,6 +27,7 @@ fn bytes(heap: Global, words: &[u64]) -> Result<Vec<u8>, AllocError> {
         .collect(heap)
 }
 
+// Alike in both crates of tests: one more crate would be longer than these few lines.
 /// The book of these words, which has to be sound.
 pub(crate) fn book_of<S: Strength>(heap: Global, words: &[u64]) -> Result<Book<S>, Fail> {
     let bytes = bytes(heap, words)?;
@@ -39,35 +38,6 @@ pub(crate) fn book_of<S: Strength>(heap: Global, words: &[u64]) -> Result<Book<S
         }
         Err(BookFault::Memory) => Err(Fail::new("no memory")),
     }
-}
-
-/// A grant to fill an array with.
-pub(crate) fn some_grant<S: Strength>(filler: S) -> Grant<S> {
-    Grant {
-        giver: Person::default(),
-        receiver: Person::default(),
-        right: Right {
-            step: Step::default(),
-            strength: filler,
-        },
-        lot: Lot::default(),
-    }
-}
-
-/// What a script is answered under the book of these words. The filler stands in places of the arrays that hold no grant.
-pub(crate) fn answers<S: Strength>(
-    heap: Global,
-    words: &[u64],
-    script: &[u8],
-    filler: S,
-) -> Result<Vec<u8>, Fail> {
-    let book = book_of::<S>(heap, words)?;
-    let mut grants = vec![in heap; some_grant(filler); MOST_GRANTS]?;
-    let mut records = vec![in heap; Record::default(); MOST_RECORDS]?;
-    let mut output = Vec::new(heap);
-    let mut register = Register::new(&book, &mut grants, &mut records);
-    run(&mut register, script, &mut output)?;
-    Ok(output)
 }
 
 /// Holds a script to the whole text that it has to print.
@@ -81,7 +51,8 @@ pub(crate) fn check_answers<S: Strength>(
     let Some(filler) = S::from_word(0) else {
         return Err(Fail::new("no strength has word 0"));
     };
-    let output = answers(heap, words, script.as_bytes(), filler)?;
+    let book = book_of::<S>(heap, words)?;
+    let output = answers(heap, &book, script.as_bytes(), filler)?;
     assert!(rt;
         output.as_slice() == expected.as_bytes(),
         "{script:?} has to print {expected:?}"

@@ -57,7 +57,7 @@ pub trait Strength: Copy {
 
 /// A kind with words of 32 bits, so that two of them make a pair with a word of 64 bits. The
 /// methods and laws are those of `Strength`, but for the last law.
-// They stand here again, since a rule of the project wants a half's word, order and passing on in a trait of its own.
+// They stand here again, as docs/DECISIONS.md says: a half has word, order and passing on in a trait of its own.
 pub trait Half: Copy {
     ghost half: { Kind Self };
 

@@ -7,9 +7,6 @@ pub mod masks;
 pub mod pairs;
 pub mod reaches;
 
-/// Masks are below this, as they have 24 bits.
-const MASK_LIMIT: u32 = 16_777_216;
-
 /// The highest temperature of a band, in tenths of a degree.
 const HIGHEST_TENTHS: u16 = 600;
 
@@ -17,10 +14,20 @@ const HIGHEST_TENTHS: u16 = 600;
 #[derive(Clone, Copy, Debug, PartialEq, Eq)]
 pub struct Marks(pub u32);
 
+impl Marks {
+    /// Marks and masks are below this, as they have 24 bits.
+    pub const LIMIT: u32 = 16_777_216;
+}
+
 /// How often a right may still be passed on; 255 is without limit.
 // A number with 255 for no limit, and no enum, since the rules and the words of books say it so.
 #[derive(Clone, Copy, Debug, PartialEq, Eq)]
 pub struct Count(pub u8);
+
+impl Count {
+    /// Without limit: the highest count, which stays as it is when a right is passed on.
+    pub const UNLIMITED: Count = Count(255);
+}
 
 /// A temperature in tenths of a degree Celsius.
 #[derive(Clone, Copy, Debug, PartialEq, Eq)]

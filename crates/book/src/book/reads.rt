@@ -23,11 +23,18 @@ fn read_marks(heap: Global, words: &[[u8; 8]]) -> Result<Vec<Marks>, AllocError>
     requires { (j : ℕ) → j < length words.now → slice_index (map word_of words.now) j < 16777216 }
     ensures { IfOk result (λ v. map (λ m. m.0) v.items ≡ map word_of words.now) }
 {
-    let mut marks = Vec::new(heap);
-    for word in words {
-        marks.push(Marks(Whole::in_row(*word) as u32))?;
-    }
-    Ok(marks)
+    words
+        .iter()
+        .map(|word| Marks(Whole::in_row(*word) as u32))
+        .collect(heap)
+}
+
+/// The row that two words say.
+fn read_row<R: Row>(first: [u8; 8], second: [u8; 8]) -> R
+    requires { is_some (R.layout.of_words (word_of first) (word_of second)) ≡ true }
+    ensures { (R.layout.first_word result ≡ word_of first) × (R.layout.second_word result ≡ word_of second) }
+{
+    R::from_words(Whole::in_row(first), Whole::in_row(second)).unwrap()
 }
 
 /// The rows that two columns say.
@@ -40,11 +47,11 @@ fn read_rows<R: Row>(
     requires lawful { (j : ℕ) → j < length firsts.now → is_some (R.layout.of_words (slice_index (map word_of firsts.now) j) (slice_index (map word_of seconds.now) j)) ≡ true }
     ensures { IfOk result (λ v. (map R.layout.first_word v.items ≡ map word_of firsts.now) × (map R.layout.second_word v.items ≡ map word_of seconds.now)) }
 {
-    let mut rows = Vec::new(heap);
-    for (first, second) in firsts.iter().zip(seconds) {
-        rows.push(R::from_words(Whole::in_row(*first), Whole::in_row(*second)).unwrap())?;
-    }
-    Ok(rows)
+    firsts
+        .iter()
+        .zip(seconds)
+        .map(|(first, second)| read_row(*first, *second))
+        .collect(heap)
 }
 
 /// The rows of a table of this size whose first column begins at this place.

@@ -2,26 +2,25 @@
 ghost use Rattle.book.specs.Books.{rules};
 ghost use Rattle.delegation.specs.Rights.{Entitled};
 ghost use Rattle.register.specs.Replies.{Says};
-ghost use Rattle.register.specs.Shape.{Called};
+ghost use Rattle.register.specs.Shape.{Called, state_of};
 ghost use Rattle.register.specs.declared.calls.Call.TheVariants.{Entitled as Asks, Grant as Grants};
 
 use super::Register;
-use crate::checks::{Named, check_asking, check_passing};
+use super::naming::Named;
 use crate::faults::RegisterFault;
-use crate::granting::check_granting;
-use book::{Book, Lot, Person, Step};
+use book::{Lot, Person, Step};
 use delegation::{Grant, Question, Right, entitled};
 use strength::Strength;
 
-/// Answers 1 if the person is entitled to the right on the lot, else 0.
-// A number and no bool, since the rules have every call told a number.
-fn answer<S: Strength>(book: &Book<S>, grants: &[Grant<S>], question: Question<S>) -> u64
-    ensures { Says (Entitled S.kind (rules book.now) grants.now question.person question.right question.lot) result }
-{
-    u64::from(entitled(book, grants, question))
-}
-
 impl<'b, 'g, 'r, S: Strength> Register<'b, 'g, 'r, S> {
+    /// Answers 1 if the person is entitled to the right on the lot, else 0.
+    // A number and no bool, since the rules have every call told a number.
+    fn answer(&self, question: Question<S>) -> u64
+        ensures { Says (Entitled S.kind (rules self.now.book.now) (state_of self.now).grants question.person question.right question.lot) result }
+    {
+        u64::from(entitled(self.book, self.grants.rows(), question))
+    }
+
     /// Answers 1 if the person is entitled on the lot to the step at the strength that the word
     /// stands for, else 0.
     pub fn entitled(
@@ -33,12 +32,11 @@ impl<'b, 'g, 'r, S: Strength> Register<'b, 'g, 'r, S> {
     ) -> Result<u64, RegisterFault>
         ensures { Called S.kind (Asks person step word lot) result self.old self.new }
     {
-        let book = self.book;
         let named = Named { step, word, lot };
-        let strength = check_asking(book, self.lots.as_slice(), person, named)?;
+        let strength = self.check_asking(person, named)?;
         let right = Right { step, strength };
         let question = Question { person, right, lot };
-        Ok(answer(book, self.grants.rows(), question))
+        Ok(self.answer(question))
     }
 
     /// Passes a right on for the lot, and answers how many grants stand on it now.
@@ -52,9 +50,8 @@ impl<'b, 'g, 'r, S: Strength> Register<'b, 'g, 'r, S> {
     ) -> Result<u64, RegisterFault>
         ensures { Called S.kind (Grants giver receiver step word lot) result self.old self.new }
     {
-        let book = self.book;
         let named = Named { step, word, lot };
-        let strength = check_passing(book, self.lots.as_slice(), giver, receiver, named)?;
+        let strength = self.check_passing(giver, receiver, named)?;
         let right = Right { step, strength };
         let grant = Grant {
             giver,
@@ -62,7 +59,7 @@ impl<'b, 'g, 'r, S: Strength> Register<'b, 'g, 'r, S> {
             right,
             lot,
         };
-        check_granting(book, self.grants.rows(), grant)?;
+        self.check_granting(grant)?;
         Ok(self.grants.add(grant) as u64)
     }
 }

@@ -1,12 +1,15 @@
 // Opening and closing lots.
-ghost use Rattle.std.specs.Prelude.{◌≢◌};
+ghost use Rattle.std.specs.Prelude.{◌<◌, length, ◌≢◌};
+ghost use Rattle.book.specs.Books.{rules};
 ghost use Rattle.delegation.specs.Found.{Filtered};
-ghost use Rattle.register.specs.Shape.{Called, Cleared};
+ghost use Rattle.register.specs.Causes.{causes, on_open_lot};
+ghost use Rattle.register.specs.Refusals.{Checks};
+ghost use Rattle.register.specs.Shape.{Called, Cleared, state_of};
 ghost use Rattle.register.specs.declared.calls.Call.TheVariants.{Open, Close};
 
 use super::Register;
-use crate::checks::{MOST_LOTS, check_open, check_opening};
-use crate::faults::RegisterFault;
+use crate::checks::{LAST_LOT, MOST_LOTS};
+use crate::faults::{Cause, RegisterFault};
 use arrayvec::ArrayVec;
 use book::Lot;
 use strength::Strength;
@@ -19,11 +22,43 @@ fn shut(lots: &mut ArrayVec<Lot, MOST_LOTS>, lot: Lot)
 }
 
 impl<'b, 'g, 'r, S: Strength> Register<'b, 'g, 'r, S> {
+    /// Whether a lot may be opened beside those that are open.
+    #[tactic(auto, using(crate::proofs::Lots::found_lot))]
+    fn check_opening(&self, lot: Lot) -> Result<(), RegisterFault>
+        ensures { Checks (causes S.kind (rules self.now.book.now) (state_of self.now) (Open lot)) (λ _. length (state_of self.now).lots < 32) result }
+    {
+        if lot.0 > LAST_LOT {
+            return Err(Cause::LotOutOfRange.at(0));
+        }
+        let lots = self.lots.as_slice();
+        if lots.contains(&lot) {
+            return Err(Cause::LotAlreadyOpen.at(0));
+        }
+        if lots.len() == MOST_LOTS {
+            return Err(Cause::TooManyLots.at(0));
+        }
+        Ok(())
+    }
+
+    /// Whether a lot, which is named at this place, is open.
+    #[tactic(auto, using(crate::proofs::Lots::found_lot))]
+    pub(super) fn check_open(&self, lot: Lot, place: usize) -> Result<(), RegisterFault>
+        ensures { Checks (on_open_lot (state_of self.now).lots lot place) (λ _. Unit {0}) result }
+    {
+        if lot.0 > LAST_LOT {
+            return Err(Cause::LotOutOfRange.at(place));
+        }
+        if !self.lots.contains(&lot) {
+            return Err(Cause::LotNotOpen.at(place));
+        }
+        Ok(())
+    }
+
     /// Opens a lot, and answers 0.
     pub fn open_lot(&mut self, lot: Lot) -> Result<u64, RegisterFault>
         ensures { Called S.kind (Open lot) result self.old self.new }
     {
-        check_opening(self.lots.as_slice(), lot)?;
+        self.check_opening(lot)?;
         self.lots.push(lot);
         Ok(0)
     }
@@ -43,7 +78,7 @@ impl<'b, 'g, 'r, S: Strength> Register<'b, 'g, 'r, S> {
     pub fn close_lot(&mut self, lot: Lot) -> Result<u64, RegisterFault>
         ensures { Called S.kind (Close lot) result self.old self.new }
     {
-        check_open(self.lots.as_slice(), lot, 0)?;
+        self.check_open(lot, 0)?;
         Ok(self.clear_lot(lot))
     }
 }

@@ -27,18 +27,10 @@ impl<'b, 'g, 'r, S: Strength> Register<'b, 'g, 'r, S> {
         ensures recorder { result.records.places.ghost_name ≡ records.entry.ghost_name }
         ensures book { result.book.now ≡ book.now }
     {
-        let grants = Table {
-            places: grants,
-            used: 0,
-        };
-        let records = Table {
-            places: records,
-            used: 0,
-        };
         Register {
             book,
-            grants,
-            records,
+            grants: Table::new(grants),
+            records: Table::new(records),
             lots: ArrayVec::new(),
         }
     }

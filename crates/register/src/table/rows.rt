@@ -1,8 +1,20 @@
-// Reading rows and adding one.
+// Making a table, reading its rows and adding one.
 ghost use Rattle.std.specs.Prelude.{◌≡◌, ◌+◌, ◌<◌, ◌≤◌, [], ◌∷◌, ◌++◌, length, take, slice_set};
 ghost use Rattle.register.specs.Shape.{rows, SameArray};
 
 use super::Table;
+
+impl<'a, T, const MOST: usize> Table<'a, T, MOST> {
+    /// A table without rows in an array that has room for them.
+    pub(crate) fn new(places: &'a mut [T]) -> Table<'a, T, MOST>
+        requires { MOST ≤ length places.old }
+        ensures used { result.used ≡ 0 }
+        ensures places { result.places.now ≡ places.old }
+        ensures lender { result.places.ghost_name ≡ places.entry.ghost_name }
+    {
+        Table { places, used: 0 }
+    }
+}
 
 impl<'a, T: Copy, const MOST: usize> Table<'a, T, MOST> {
     /// The rows.

@@ -3,14 +3,14 @@ ghost use Rattle.std.specs.Prelude.{◌≡◌};
 ghost use Rattle.strength.specs.Reaches.{reach};
 ghost use Rattle.strength.specs.Bands.{band};
 
-use super::{Band, Count, HIGHEST_TENTHS, MASK_LIMIT, Marks, Pair, Reach, Tenths};
+use super::{Band, Count, HIGHEST_TENTHS, Marks, Pair, Reach, Tenths};
 
 impl Reach {
     /// The reach of this count and mask, if there is one.
     pub fn new(count: Count, mask: Marks) -> Option<Reach>
         ensures { result ≡ reach count.0 mask.0 }
     {
-        if mask.0 >= MASK_LIMIT {
+        if mask.0 >= Marks::LIMIT {
             return None;
         }
         if count.0 == 0 && mask.0 != 0 {

@@ -8,18 +8,10 @@ use super::Marks;
 const MARK_BITS: u32 = 24;
 
 impl Marks {
-    /// Whether each of the lowest bits, so many, that the mask has is among these marks.
-    fn contains_lowest(self, mask: Marks, bits: u32) -> bool
-        requires { bits ≤ 32 }
-        ensures { Decides result ((k : ℕ) → k < bits → bit mask.0 k ≡ 1 → bit self.0 k ≡ 1) }
-    {
-        (0..bits).all(|k| (mask.0 >> k) % 2 == 0 || (self.0 >> k) % 2 == 1)
-    }
-
     /// Whether each of the 24 bits that the mask has is among these marks.
     pub fn contains(self, mask: Marks) -> bool
         ensures { Decides result (Within mask.0 self.0) }
     {
-        self.contains_lowest(mask, MARK_BITS)
+        (0..MARK_BITS).all(|k| (mask.0 >> k) % 2 == 0 || (self.0 >> k) % 2 == 1)
     }
 }

@@ -5,17 +5,14 @@ ghost use Rattle.strength.specs.Reaches.{reach_kind, passes, lowered_reach, next
 ghost use Rattle.strength.specs.ReachLaws.{reach_reflexive, reach_transitive, reach_antisymmetric, reach_decreasing, reach_monotone, reach_reads_back, reach_keeps_word};
 ghost use Rattle.std.proofs.Common.{rules};
 
-use super::{Count, MASK_LIMIT, Marks, Reach};
+use super::{Count, Marks, Reach};
 use crate::kinds::Half;
-
-/// The highest count, which stays as it is when a right is passed on.
-const UNLIMITED: u8 = 255;
 
 /// The count after passing on.
 fn count_left(count: Count) -> Count
     ensures { result.0 ≡ next_count count.0 }
 {
-    if count.0 == UNLIMITED {
+    if count == Count::UNLIMITED {
         return count;
     }
     Count(count.0.saturating_sub(1))
@@ -87,12 +84,12 @@ impl Half for Reach {
     }
 
     fn half_word(self) -> u32 {
-        u32::from(self.count.0) * MASK_LIMIT + self.mask.0
+        u32::from(self.count.0) * Marks::LIMIT + self.mask.0
     }
 
     fn from_half_word(word: u32) -> Option<Reach> {
-        let count = Count((word / MASK_LIMIT) as u8);
-        let mask = Marks(word % MASK_LIMIT);
+        let count = Count((word / Marks::LIMIT) as u8);
+        let mask = Marks(word % Marks::LIMIT);
         Reach::new(count, mask)
     }
 }

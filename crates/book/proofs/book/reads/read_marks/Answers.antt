@@ -1,24 +1,22 @@
-use Rattle.std.proofs.Common.{[], map, vec_items, sym, ap, ◌∙◌, arith}
-use Rattle.std.proofs.lemmas.List.{get_or-map, length-map}
+use Rattle.std.proofs.Common.{sym, ap, ◌∙◌, arith, rules}
+use Rattle.std.proofs.lemmas.Iterator.{YieldsList-from_slice, YieldsList-from_map_by}
+use Rattle.std.proofs.lemmas.Iterator.Adapters.{serves_from_places}
+use Rattle.std.proofs.lemmas.Iterator.Consumers.{YieldsList-at, map_from_collect}
+use Rattle.std.proofs.lemmas.List.{get_or-map}
 use Rattle.book.specs.Words.{word_of}
-use Rattle.book.proofs.Pushed.{push_more, push_all}
 use Rattle.book.proofs.book.reads.read_marks.Goals as goal
 
-pub overflow_cast-in_row : goal.overflow_cast-in_row
-overflow_cast-in_row c =
-    let i = c.loop-word.word-index in
-    let e = c.in_row.ensures ∙ sym (get_or-map word_of c.args.words.now i [] 0 c.loop-word-test.true) in
-    let h = c.requires i c.loop-word-test.true in
-    omega arith
-
-pub loop-word-preserved : goal.loop-word-preserved
-loop-word-preserved c =
-    let i = c.loop-word.word-index in
-    let ws = map word_of c.args.words.now in
-    let e = c.in_row.ensures ∙ sym (get_or-map word_of c.args.words.now i [] 0 c.loop-word-test.true) in
-    ap (map (λ m. m.0)) c.in_ok-push.ensures.items
-    ∙ push_more (λ m. m.0) (vec_items c.loop-word.marks) record { 0 = c.in_row.result } ws i (omega (arith, length-map c.args.words.now word_of, c.loop-word-test.true)) e c.loop-word.invariant
+pub collect-requires-clause-can : goal.collect-requires-clause-can
+collect-requires-clause-can c = (
+  tt,
+  serves_from_places (YieldsList-from_slice c.args.words.now cc) (λ x q h. search rules) (λ x k lt e.
+      λ _ _ _ _ _ _ _ in_row.
+      let q = in_row.ensures ∙ ap word_of e ∙ sym (get_or-map word_of c.args.words.now k x.now 0 lt) in
+      let h = c.requires k lt in
+      omega arith),
+)
 
 pub returns : goal.returns
 returns c =
-    push_all (λ m. m.0) (vec_items c.loop-word.marks) (map word_of c.args.words.now) c.loop-word.word-index (omega (arith, length-map c.args.words.now word_of, c.loop-word-test.false)) c.loop-word.invariant
+    map_from_collect c.collect.result c.collect.ensures.ran
+    (YieldsList-from_map_by _ (λ m. m.0) word_of (YieldsList-at c.map.ensures.source (YieldsList-from_slice c.args.words.now cc)) c.map.ensures.closure (λ x r q h. search rules))

@@ -5,7 +5,7 @@ use Rattle.std.proofs.lemmas.Bool.{false≢true}
 use Rattle.std.proofs.lemmas.Iterator.{cases_from_all, YieldsList-from_range}
 use Rattle.std.proofs.lemmas.List.FromFn.{get_or-range_with_len, length-range_with_len}
 use Rattle.strength.specs.Masks.{bit}
-use Rattle.strength.proofs.values.Marks.contains_lowest.Goals as goal
+use Rattle.strength.proofs.values.Marks.contains.Goals as goal
 
 number_at : (n k : ℕ) → k < n → get_or (range_with_len 0 n) k 0 ≡ k
 number_at n k lt = get_or-range_with_len 0 n k 0 lt ∙ zero-add k
@@ -24,4 +24,4 @@ returns c =
     let m = c.args.mask.0 in
     let s = c.args.self.0 in
     let P = λ (k : ℕ). bit m k ≡ 1 → bit s k ≡ 1 in
-    Decides-below P c.args.bits c.all.result (cases_from_all _ _ _ P (λ k. P k → ⊥) c.all.ensures.ran (YieldsList-from_range 0 c.args.bits c.args.bits refl (omega arith)) (λ x q k. search (rules, tests)) (λ x q k. search (rules, tests)))
+    Decides-below P 24 c.all.result (cases_from_all _ _ _ P (λ k. P k → ⊥) c.all.ensures.ran (YieldsList-from_range 0 24 24 refl (omega arith)) (λ x q k. search (rules, tests)) (λ x q k. search (rules, tests)))
