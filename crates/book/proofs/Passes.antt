@@ -1,11 +1,11 @@
 -- What one more passed row, and a round that changes nothing, say of the table of covering.
-use Rattle.std.proofs.Common.{◌≡◌, ℕ, ◌+◌, ◌<◌, Bool, ◌⊎◌, List, [], length, get_or, set, refl, sym, subst, inl, inr, arith, below_more}
+use Rattle.std.proofs.Common.{◌≡◌, ℕ, ◌+◌, ◌<◌, ◌≤◌, Bool, ◌⊎◌, List, [], length, get_or, set, refl, sym, subst, inl, inr, arith, below_more}
 use mathlib.Core.List.{Memᴰ}
 use Rattle.book.specs.Covering.{Covers, itself, onward, StepsInRange, TellsCovering}
 use Rattle.book.specs.Flags.{Raised, Set}
 use Rattle.book.specs.Passing.{AllPassed, OnlyPassed, OnlySelves, Passed, Selves, Sound}
 use Rattle.book.specs.declared.rows.Cover.{Cover}
-use Rattle.book.proofs.Raised.{row_cases, row_here, row_there}
+use Rattle.book.proofs.Raised.{row_cases, row_here, row_there, row_within}
 
 -- row a of the table is changed
 module _ (t : List (List Bool)) (a : ℕ) (row : List Bool) (lt : a < length t) where
@@ -23,13 +23,13 @@ module _ (t : List (List Bool)) (a : ℕ) (row : List Bool) (lt : a < length t) 
   selves_row h selves = below_more _ _ (λ x l. row_there t a row lt x x (λ e. omega (arith, e, l)) (selves x l)) (row_here t a row lt a h)
 
   module _ (s w : ℕ) (lts : s < 64) where
-    pub only_passed_row : (before : List (List Bool)) → a < 64 → ((y : ℕ) → Raised row y → Raised (get_or t a []) y ⊎ ((y ≡ w) × Raised (get_or t a []) s)) → OnlyPassed s w before t → OnlyPassed s w before (set t a row)
-    only_passed_row before lta new only x y ltx lty h =
+    pub only_passed_row : (before : List (List Bool)) → ((y : ℕ) → Raised row y → Raised (get_or t a []) y ⊎ ((y ≡ w) × Raised (get_or t a []) s)) → OnlyPassed s w before t → OnlyPassed s w before (set t a row)
+    only_passed_row before new only x y ltx lty h =
         elim (row_cases t a row lt x y h) [
           | inl e ↦ elim (new y e.1) [
             | inl r ↦ only x y ltx lty (subst (λ (z : ℕ). Set t z y) (sym e.0) r)
             | inr r ↦
-                (let was : Set before a s = elim (only a s lta lts r.1) [ inl k ↦ k | inr k ↦ k.1 ] in
+                (let was : Set before a s = elim (only a s (omega (arith, e.0, ltx)) lts r.1) [ inl k ↦ k | inr k ↦ k.1 ] in
                 inr (r.0, subst (λ (z : ℕ). Set before z s) (sym e.0) was))
           ]
           | inr r ↦ only x y ltx lty r.1
@@ -46,6 +46,10 @@ module _ (t : List (List Bool)) (a : ℕ) (row : List Bool) (lt : a < length t) 
           | inl e ↦ row_here t a row lt w (h e.1)
           | inr r ↦ absurd (r.0 refl)
         ])
+
+-- past the end of the table no flag is raised
+pub passed_all : (t : List (List Bool)) (s w n : ℕ) → length t ≤ n → Passed s w t n → Passed s w t 64
+passed_all t s w n le passed a lta h = passed a (omega (arith, le, row_within t a s h)) h
 
 pub sound_passed : (rows : List Cover) (row : Cover) (before after : List (List Bool)) → StepsInRange rows → Memᴰ row rows → Sound rows before → OnlyPassed row.stronger.0 row.weaker.0 before after → Sound rows after
 sound_passed rows row before after range m sound only a b lta ltb h =

@@ -1,6 +1,7 @@
 -- What a changed row changes of a table of flags.
 use Rattle.std.proofs.Common.{◌≡◌, ℕ, zero, suc, ◌<◌, ◌≤◌, Bool, true, false, ◌⊎◌, List, [], ◌∷◌, length, get_or, set, replicate, sym, refl, ap, ◌∙◌, subst, inl, inr, arith}
-use Rattle.std.proofs.lemmas.List.{get_or-replicate, get_or_past, get_or-set_other, get_or-set_same, length-replicate}
+use Rattle.std.proofs.lemmas.List.{ext_get_or, get_or-replicate, get_or_past, get_or-set_other, get_or-set_same, length-replicate}
+use Rattle.std.specs.Array.{AllZipBelow}
 use Rattle.std.proofs.lemmas.Bool.{both_ways, cases_Bool, cases_eq, cases_lt}
 use Rattle.book.specs.Flags.{Raised, Set, Clear, Grows, lowered, unset}
 
@@ -14,6 +15,14 @@ raised_still row i x lt h =
     elim (cases_eq x i) [
       | inl e ↦ subst (Raised (set row i true)) (sym e) (get_or-set_same row i true false lt)
       | inr ne ↦ get_or-set_other row i x true false ne ∙ h
+    ]
+
+-- a raised flag is in one of the rows
+pub row_within : (t : List (List Bool)) (a b : ℕ) → Set t a b → a < length t
+row_within t a b h =
+    elim (cases_lt a (length t)) [
+      | inl lt ↦ lt
+      | inr ge ↦ absurd (both_ways _ (ap (λ r. get_or r b false) (get_or_past t a [] ge)) h)
     ]
 
 -- one flag more leaves one fewer to raise
@@ -58,6 +67,10 @@ no_more after before changed fewer same =
       | inl e ↦ omega (arith, fewer e)
       | inr e ↦ omega (arith, ap unset (same e))
     ]
+
+-- a copy of a row is that row
+pub copied : (row copy : List Bool) (n : ℕ) → length row ≡ n → AllZipBelow (λ x y. y ≡ x) row copy n → copy ≡ row
+copied row copy n long of = ext_get_or false copy row (of.long ∙ sym long) (λ i lt. of.at i false false (omega (arith, lt, of.long)))
 
 pub fresh_clear : (n m : ℕ) → Clear (replicate n (replicate m false))
 fresh_clear n m a b h =

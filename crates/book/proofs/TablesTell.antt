@@ -18,7 +18,7 @@ decides_out r out d = ((λ e. out (∥∥₁_map d (λ s. s.0 e))), (λ p. ∥�
 
 pub covering_told : (rows : List Cover) (table : List (List Bool)) → CoveringExact rows table → (a b : ℕ) → a < 64 → b < 64 → Decides (flag_at table a b) (Covers rows a b)
 covering_told rows table exact a b lta ltb =
-    decides_out _ (covers_out rows a b) (∥∥₁_map exact.1 (λ told. told a b lta ltb))
+    decides_out _ (covers_out rows a b) (∥∥₁_map exact.2 (λ told. told a b lta ltb))
 
 -- a step and what it covers are the same or both in range
 covers_range : (rows : List Cover) → StepsInRange rows → (a b : ℕ) → Covers rows a b → (a ≡ b) ⊎ ((a < 64) × (b < 64))
@@ -70,4 +70,4 @@ plays_out rows u p some = elim (plays_or_not u p rows) [ inl w ↦ w | inr none 
 
 pub playing_told : (rows : List Play) (table : List (List Bool)) → PlayingExact rows table → (u p : ℕ) → u < 256 → p < 64 → Decides (flag_at table u p) (Plays rows u p)
 playing_told rows table exact u p ltu ltp =
-    decides_out _ (plays_out rows u p) (∥∥₁_map exact.1 (λ told. told u p ltu ltp))
+    decides_out _ (plays_out rows u p) (∥∥₁_map exact.2 (λ told. told u p ltu ltp))

@@ -1,5 +1,5 @@
 -- Which step covers which, by the rows of a book.
-use Rattle.std.specs.Prelude.{ℕ, ◌<◌, Bool, List, Decides}
+use Rattle.std.specs.Prelude.{◌≡◌, ℕ, ◌<◌, Bool, List, length, Decides}
 use mathlib.Core.List.{Memᴰ}
 use Rattle.book.specs.Flags.{flag_at}
 use Rattle.book.specs.declared.rows.Cover.{Cover}
@@ -19,4 +19,4 @@ TellsCovering rows table = (a b : ℕ) → a < 64 → b < 64 → Decides (flag_a
 
 -- the table is that of these rows; truncated, since a fact in a ghost field has one proof only
 abbrev pub CoveringExact : List Cover → List (List Bool) → Type 0
-CoveringExact rows table = StepsInRange rows × ∥ TellsCovering rows table ∥₁
+CoveringExact rows table = StepsInRange rows × (length table ≡ 64) × ∥ TellsCovering rows table ∥₁

@@ -1,5 +1,5 @@
 -- Who plays what, by the rows of a book.
-use Rattle.std.specs.Prelude.{◌≡◌, ℕ, ◌<◌, Bool, List, Decides}
+use Rattle.std.specs.Prelude.{◌≡◌, ℕ, ◌<◌, Bool, List, length, Decides}
 use mathlib.Core.List.{Memᴰ}
 use Rattle.book.specs.Flags.{flag_at}
 use Rattle.book.specs.declared.rows.Play.{Play}
@@ -18,4 +18,4 @@ TellsPlaying rows table = (u p : ℕ) → u < 256 → p < 64 → Decides (flag_a
 
 -- the table is that of these rows; truncated, since a fact in a ghost field has one proof only
 abbrev pub PlayingExact : List Play → List (List Bool) → Type 0
-PlayingExact rows table = PlaysInRange rows × ∥ TellsPlaying rows table ∥₁
+PlayingExact rows table = PlaysInRange rows × (length table ≡ 256) × ∥ TellsPlaying rows table ∥₁

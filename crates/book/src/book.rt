@@ -18,9 +18,9 @@ use crate::tables::{Covering, Playing};
 #[derive(Drop)]
 pub struct Book<S> {
     rows: Rows<S>,
-    covering: Box<Covering>,
-    playing: Box<Playing>,
+    covering: Vec<Covering>,
+    playing: Vec<Playing>,
     ghost fit: { fits {S = S} (said rows) ≡ true },
-    ghost covered: { CoveringExact rows.covers.items covering.value },
-    ghost played: { PlayingExact rows.plays.items playing.value },
+    ghost covered: { CoveringExact rows.covers.items covering.items },
+    ghost played: { PlayingExact rows.plays.items playing.items },
 }

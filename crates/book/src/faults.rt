@@ -6,7 +6,7 @@ ghost use Rattle.book.specs.declared.faults.BookFault.TheVariants.{Memory, Refus
 use std::alloc::AllocError;
 
 /// What is wrong with a book, or with a buffer for one.
-#[derive(Clone, Copy, Debug, PartialEq, Eq)]
+#[derive(Clone, Copy, Debug, PartialEq, Eq, PartialOrd, Ord, Hash)]
 pub enum Cause {
     /// The bytes are fewer than the sizes take. The place is their number.
     ShortBook = 1,

@@ -1,20 +1,21 @@
 // Which step covers which: row by row, until a round over the rows changes nothing.
-ghost use Rattle.std.specs.Prelude.{◌≡◌, ℕ, ◌<◌, true, false, ◌⊎◌, List, IfOk, Decides};
+ghost use Rattle.std.specs.Prelude.{◌≡◌, ℕ, ◌<◌, true, false, ◌⊎◌, List, length, IfOk, Decides};
 ghost use Rattle.book.specs.Covering.{Covers, CoveringExact, StepsInRange, TellsCovering};
 ghost use Rattle.book.specs.Flags.{Clear, Grows, Raised, lowered, unset};
 ghost use Rattle.book.specs.Passing.{AllPassed, OnlyPassed, OnlySelves, RowPassed, Selves, Sound};
 
-use super::raise;
+use super::{clear_table, raise};
 use crate::rows::{Cover, Step};
 use crate::sizes::MOST_STEPS;
 use std::alloc::{AllocError, Global};
 
-/// For each step, which steps it covers.
-pub(crate) type Covering = [[bool; MOST_STEPS]; MOST_STEPS];
+/// Which steps a step covers.
+pub(crate) type Covering = [bool; MOST_STEPS];
 
 // Each step covers itself.
-fn mark_selves(table: &mut Covering)
-    requires { Clear table.old }
+fn mark_selves(table: &mut [Covering])
+    requires size { length table.old ≡ 64 }
+    requires clear { Clear table.old }
     ensures only { OnlySelves table.new }
     ensures selves { Selves table.new 64 }
 {
@@ -24,7 +25,7 @@ fn mark_selves(table: &mut Covering)
 }
 
 // Where a step that covers these covers the stronger step, it covers the weaker one; whether that is new.
-fn pass_step(covered: &mut [bool; MOST_STEPS], stronger: usize, weaker: usize) -> bool
+fn pass_step(covered: &mut Covering, stronger: usize, weaker: usize) -> bool
     requires { (stronger < 64) × (weaker < 64) }
     ensures only { (b : ℕ) → Raised covered.new b → Raised covered.old b ⊎ ((b ≡ weaker) × Raised covered.old stronger) }
     ensures grows { (b : ℕ) → Raised covered.old b → Raised covered.new b }
@@ -40,7 +41,7 @@ fn pass_step(covered: &mut [bool; MOST_STEPS], stronger: usize, weaker: usize) -
 }
 
 // Each step that covers the row's stronger step covers its weaker one; whether that is new of any.
-fn pass_row(row: Cover, table: &mut Covering) -> bool
+fn pass_row(row: Cover, table: &mut [Covering]) -> bool
     requires { (row.stronger.0 < 64) × (row.weaker.0 < 64) }
     ensures only { OnlyPassed row.stronger.0 row.weaker.0 table.old table.new }
     ensures grows { Grows table.old table.new }
@@ -61,7 +62,7 @@ fn pass_row(row: Cover, table: &mut Covering) -> bool
 
 // Rows in range are no type: one would be made just once, of rows that the book's check has passed, and would ask the same.
 // One pass of each row; whether the table changed.
-fn pass_rows(rows: &[Cover], table: &mut Covering) -> bool
+fn pass_rows(rows: &[Cover], table: &mut [Covering]) -> bool
     requires range { StepsInRange rows.now }
     requires sound { Sound rows.now table.old }
     ensures sound { Sound rows.now table.new }
@@ -79,7 +80,7 @@ fn pass_rows(rows: &[Cover], table: &mut Covering) -> bool
 }
 
 // Completes a table in which each step covers just itself: rounds over the rows, until one changes nothing.
-fn close(rows: &[Cover], table: &mut Covering)
+fn close(rows: &[Cover], table: &mut [Covering])
     requires range { StepsInRange rows.now }
     requires only { OnlySelves table.old }
     requires selves { Selves table.old 64 }
@@ -89,18 +90,19 @@ fn close(rows: &[Cover], table: &mut Covering)
 }
 
 // The table of what covers what.
-pub(crate) fn covering_table(heap: Global, rows: &[Cover]) -> Result<Box<Covering>, AllocError>
+pub(crate) fn covering_table(heap: Global, rows: &[Cover]) -> Result<Vec<Covering>, AllocError>
     requires { StepsInRange rows.now }
-    ensures { IfOk result (λ b. CoveringExact rows.now b.value) }
+    ensures { IfOk result (λ v. CoveringExact rows.now v.items) }
 {
-    let mut table = Box::new(heap, [[false; MOST_STEPS]; MOST_STEPS])?;
+    let mut table = clear_table(heap, MOST_STEPS)?;
     mark_selves(&mut table);
     close(rows, &mut table);
     Ok(table)
 }
 
 // Whether the stronger step covers the weaker one, for all rows whose table this is.
-pub(crate) fn covers(table: &Covering, stronger: Step, weaker: Step) -> bool
+pub(crate) fn covers(table: &[Covering], stronger: Step, weaker: Step) -> bool
+    requires { length table.now ≡ 64 }
     ensures { (rows : List Cover) → CoveringExact rows table.now → Decides result (Covers rows stronger.0 weaker.0) }
 {
     let a = stronger.0 as usize;

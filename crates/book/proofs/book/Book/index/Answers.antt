@@ -1,4 +1,4 @@
-use Rattle.std.proofs.Common.{List, sym, subst}
+use Rattle.std.proofs.Common.{List, vec_items, sym, subst}
 use Rattle.book.specs.Covering.{CoveringExact, StepsInRange}
 use Rattle.book.specs.Playing.{PlayingExact, PlaysInRange}
 use Rattle.book.specs.Rules.{said}
@@ -16,6 +16,6 @@ playing_table-requires g c = subst PlaysInRange (sym c.deref-2.ensures.value) (f
 pub invariant_of-result : goal.invariant_of-result
 invariant_of-result g c = record {
   fit = c.requires;
-  covered = subst (λ (rows : List Cover). CoveringExact rows (c.in_ok-covering.covering.value)) c.deref.ensures.value c.in_ok-covering.ensures;
-  played = subst (λ (rows : List Play). PlayingExact rows (c.in_ok-playing.playing.value)) c.deref-2.ensures.value c.in_ok-playing.ensures;
+  covered = subst (λ (rows : List Cover). CoveringExact rows (vec_items c.in_ok-covering.covering)) c.deref.ensures.value c.in_ok-covering.ensures;
+  played = subst (λ (rows : List Play). PlayingExact rows (vec_items c.in_ok-playing.playing)) c.deref-2.ensures.value c.in_ok-playing.ensures;
 }
