@@ -1,11 +1,8 @@
 -- Flags of the grants that a withdrawal leaves, place by place.
-use Rattle.std.proofs.Common.{◌≡◌, ℕ, zero, suc, ◌+◌, ◌<◌, ◌≤◌, Bool, false, ◌==◌, List, length, get_or, Decides, sym, subst, inl, inr, arith}
+use Rattle.std.proofs.Common.{◌≡◌, ℕ, ◌+◌, ◌<◌, Bool, false, ◌==◌, ◌≢◌, List, length, get_or, set, Decides, sym, subst, inl, inr, arith, below_more}
 use mathlib.Core.List.{Memᴰ}
-use denote.Param.Members.{Mut, Called}
-use Rattle.std.specs.Array.{IsFromFnResultFrom, IsFromFnResult}
-use Rattle.std.specs.List.{HoldsAt, slice_get}
-use Rattle.std.specs.Option.{MatchOption}
-use Rattle.std.proofs.lemmas.Option.{slice_get-get_or}
+use Rattle.std.specs.List.{HoldsAt}
+use Rattle.std.proofs.lemmas.List.{get_or-set_same, get_or-set_other}
 use Rattle.std.proofs.lemmas.Bool.{both_ways, cases_Bool}
 use Rattle.std.proofs.lemmas.Bool.Decides.{not_from_Decides, Decides-like}
 use Rattle.delegation.proofs.Judged.{same_lots}
@@ -17,28 +14,15 @@ use Rattle.delegation.specs.Withdrawals.{FlagsOf, Apart, Beside}
 use Rattle.delegation.specs.declared.grants.Grant.{Grant}
 use Rattle.delegation.proofs.Links.{wider, ends_in}
 use Rattle.book.proofs.Members.{member}
-use Rattle.delegation.proofs.Searches.{mem_place, some_read}
+use Rattle.delegation.proofs.Searches.{mem_place}
 
--- what each call that fills an array gives, the array has at that place
-made_from : {F B : Type 0} {g : Mut F (ℕ × Unit {0}) B} (R : ℕ → B → Type 0) (f : F) (ys : List B) → ((i : ℕ) (y : B) (q : F) → Called g f (i, tt) y q → (q ≡ f) × R i y) → (i n : ℕ) → IsFromFnResultFrom g f ys i n → (k j : ℕ) → i + k ≡ j → k < n → (d : B) → R j (get_or ys j d)
-made_from R f ys says i zero made k j e lt d = absurd (omega arith)
-made_from {g = g} R f ys says i (suc n) made zero j e lt d =
-    let is : i ≡ j = omega (arith, e) in
-    subst (λ m. R m (get_or ys m d)) is (subst (R i) (sym (made.2.1 d)) (says i made.1 made.0 made.3).1)
-made_from {g = g} R f ys says i (suc n) made (suc k) j e lt d =
-    made_from R f ys says (i + 1) n (subst (λ p. IsFromFnResultFrom g p ys (i + 1) n) (says i made.1 made.0 made.3).0 made.4) k j (omega (arith, e)) (omega arith) d
-
-pub made_at : {F B : Type 0} {g : Mut F (ℕ × Unit {0}) B} (R : ℕ → B → Type 0) (f : F) (ys : List B) (n : ℕ) → IsFromFnResult g f ys n → ((i : ℕ) (y : B) (q : F) → Called g f (i, tt) y q → (q ≡ f) × R i y) → (i : ℕ) → i < n → (d : B) → R i (get_or ys i d)
-made_at R f ys n made says i lt d = made_from R f ys says 0 n made.each i i (omega arith) lt d
-
--- a flag that is made of the element at its place
-abbrev pub FlagAt : {X : Type 0} → (X → Type 0) → List X → ℕ → Bool → Type 0
-FlagAt P xs i b = MatchOption (slice_get xs i) (b ≡ false) (λ x. Decides b (P x))
-
-pub flags_made : {X : Type 0} (P : X → Type 0) (xs : List X) (flags : List Bool) (n : ℕ) → length xs ≤ n → ((i : ℕ) → i < n → (b : Bool) → FlagAt P xs i (get_or flags i b)) → FlagsOf P xs flags
-flags_made {X} P xs flags n few made i lt =
-    let here : (d : X) → Decides (get_or flags i false) (P (get_or xs i d)) = λ d. subst (λ o. MatchOption o (get_or flags i false ≡ false) (λ x. Decides (get_or flags i false) (P x))) (slice_get-get_or xs i d lt) (made i (omega arith) false) in
-    ((λ e d. (here d).0 e), (λ h. let x = some_read xs i lt in (here x.0).1 (h x.0)))
+-- one place more
+pub flags_more : {X : Type 0} (P : X → Type 0) (xs : List X) (flags : List Bool) (i : ℕ) (b : Bool) → i < length flags → ((j : ℕ) → j < i → Decides (get_or flags j false) (HoldsAt P xs j)) →
+    Decides b (HoldsAt P xs i) → (j : ℕ) → j < i + 1 → Decides (get_or (set flags i b) j false) (HoldsAt P xs j)
+flags_more P xs flags i b inside before here =
+    below_more _ _
+    (λ j l. let ne : j ≢ i = omega arith in subst (λ c. Decides c (HoldsAt P xs j)) (sym (get_or-set_other flags i j b false ne)) (before j l))
+    (subst (λ c. Decides c (HoldsAt P xs i)) (sym (get_or-set_same flags i b false inside)) here)
 
 module _ {S : Type 0} (gs : List (Grant S)) (named : Grant S) (gone : List Bool) (flags : FlagsOf (Apart named) gs gone) where
   not_apart : (h : Grant S) → Beside gs named h → Apart named h → ⊥

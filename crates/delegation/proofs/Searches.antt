@@ -4,8 +4,9 @@ use mathlib.Core.List.Memᴰ
 use mathlib.Core.List.{Memᴰ}
 use denote.Param.Members.{Mut, Called}
 use Rattle.std.specs.Bool.{MatchBool}
+use Rattle.std.specs.Int.{from_bool}
 use Rattle.std.specs.Iterator.{ChecksAny}
-use Rattle.std.specs.List.{filter, AllWithin, HoldsAt, list_any}
+use Rattle.std.specs.List.{filter, AllWithin, HoldsAt, count_by, list_any, sum_by}
 use Rattle.std.proofs.lemmas.Bool.{false≢true, cases_Bool, or_cases}
 use Rattle.std.proofs.lemmas.Bool.Decides.{not_from_Decides}
 use Rattle.std.proofs.lemmas.Iterator.{YieldsList, cases_from_any}
@@ -79,6 +80,11 @@ Filtered-filter P test decides (x ∷ xs) =
 -- so its count is how many have it
 pub counted_by : {X : Type 0} (P : X → Type 0) (test : X → Bool) → ((x : X) → Decides (test x) (P x)) → (xs : List X) (n : ℕ) → n ≡ length (filter test xs) → Counted P xs n
 counted_by P test decides xs n e = (filter test xs, Filtered-filter P test decides xs, e)
+
+-- how many pass a test is the sum of one for each that does
+pub summed : {X : Type 0} (test : X → Bool) (xs : List X) → sum_by (λ x. from_bool (test x)) xs ≡ count_by test xs
+summed test [] = refl
+summed test (x ∷ xs) = let rest = summed test xs in elim (cases_Bool (test x)) [ inl e ↦ grind arith | inr e ↦ grind arith ]
 
 -- no element up to the one at a place has P, if no earlier one has it and this one has not
 pub none_more : {X : Type 0} (P : X → Type 0) (xs : List X) (i : ℕ) (x : X) → i < length xs → x ≡ get_or xs i x → NoneOf P (take i xs) → (P x → ⊥) → NoneOf P (take (i + 1) xs)

@@ -7,7 +7,6 @@ ghost use Rattle.delegation.specs.Withdrawals.{FlagsOf, Apart, Beside};
 use crate::chains::{MOST_GRANTS, chained};
 use crate::grants::Grant;
 use book::Book;
-use std::array;
 use strength::Strength;
 
 /// Whether no chain may use a grant: it lies on another lot, or it is the named one.
@@ -26,10 +25,11 @@ pub fn chained_beside<S: Strength>(
     requires { length grants.now ≤ MOST_GRANTS }
     ensures { FlagsOf (Chained S.kind (rules book.now) (Beside grants.now named)) grants.now result }
 {
-    // Made whole, since of what a loop over `iter_mut().zip(..)` writes a proof would know nothing.
-    let gone: [bool; MOST_GRANTS] = array::from_fn(|i| {
-        grants.get(i).is_some_and(|grant| is_apart(*grant, named))
-    });
+    let mut gone = [false; MOST_GRANTS];
+    // By place, since of what a loop over `iter_mut().zip(..)` writes a proof would know nothing.
+    for (i, grant) in grants.iter().enumerate() {
+        gone[i] = is_apart(*grant, named);
+    }
     chained(book, grants, &gone)
 }
 
