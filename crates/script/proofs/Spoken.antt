@@ -1,11 +1,10 @@
--- An output line in the order in which its parts are pushed.
-use Rattle.std.proofs.Common.{◌≡◌, ℕ, [], ◌∷◌, ◌++◌, Ok, Err, codes, decimal, refl, append_assoc}
-use Rattle.script.specs.declared.faults.Fault.{Fault}
-use Rattle.script.specs.Faults.{number_of, place_of}
+-- An output line in the order in which its parts are put in front of its end.
+use Rattle.std.proofs.Common.{◌≡◌, ℕ, [], ◌∷◌, ◌++◌, Ok, codes, decimal, refl, append_assoc}
 use Rattle.script.specs.Lines.{spoken}
+use Rattle.script.specs.Output.{refused}
 
-pub ok_line : (n a : ℕ) → decimal n ++ codes " ok " ++ decimal a ++ 10 ∷ [] ≡ spoken n (Ok a)
+pub ok_line : (n a : ℕ) → decimal n ++ (codes " ok " ++ (decimal a ++ (10 ∷ []))) ≡ spoken n (Ok a)
 ok_line n a = simp append_assoc
 
-pub no_line : (n : ℕ) (f : Fault) → decimal n ++ codes " no " ++ decimal (number_of f) ++ 32 ∷ [] ++ decimal (place_of f) ++ 10 ∷ [] ≡ spoken n (Err f)
+pub no_line : (n : ℕ) (f : ℕ × ℕ) → decimal n ++ (codes " no " ++ (decimal f.0 ++ (codes " " ++ (decimal f.1 ++ (10 ∷ []))))) ≡ refused n f
 no_line n f = simp append_assoc refl

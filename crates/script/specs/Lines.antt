@@ -1,5 +1,5 @@
 -- What a line does to a register, and what is written of it.
-use Rattle.std.specs.Prelude.{◌≡◌, ℕ, ◌<◌, ◌≤◌, List, [], ◌∷◌, ◌++◌, length, drop, Some, None, Ok, Err, codes, Option, Result}
+use Rattle.std.specs.Prelude.{◌≡◌, ℕ, ◌<◌, ◌≤◌, List, ◌++◌, length, drop, Some, None, Ok, Err, Option, Result}
 use Rattle.strength.specs.Kind.{Kind}
 use Rattle.register.specs.Replies.{wording}
 use Rattle.register.specs.Shape.{Called}
@@ -13,7 +13,7 @@ use Rattle.script.specs.declared.faults.Fault.TheVariants.{OfRegister, OfScript}
 use Rattle.script.specs.declared.faults.LineFault.{LineFault}
 use Rattle.script.specs.declared.lines.Told.{Told}
 use Rattle.script.specs.Faults.{number_of, place_of}
-use Rattle.script.specs.Output.{line_of}
+use Rattle.script.specs.Output.{line_of, refused}
 use Rattle.script.specs.Parsed.{parsed}
 
 -- what the script hears of what a call is told
@@ -29,7 +29,7 @@ Asked k (Ok call) before r after = (e : Result ℕ RegisterFault) × Called k ca
 -- the output line, with the line's number: an answer in the words of its reply, or the refusal of whichever layer
 abbrev pub spoken : ℕ → Result ℕ Fault → List ℕ
 spoken n (Ok answer) = line_of n (wording (Ok answer)).0 (wording (Ok answer)).1
-spoken n (Err f) = line_of n (codes "no") (number_of f ∷ place_of f ∷ [])
+spoken n (Err f) = refused n (number_of f, place_of f)
 
 -- the fault that a line met
 abbrev pub fault_at : ℕ → Result ℕ Fault → Option LineFault

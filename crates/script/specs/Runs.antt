@@ -2,6 +2,7 @@
 use Rattle.std.specs.Prelude.{◌≡◌, ℕ, ◌+◌, ◌<◌, ◌≤◌, ◌⊎◌, List, [], ◌∷◌, ◌++◌, length, Err, Result}
 use Rattle.strength.specs.Kind.{Kind}
 use Rattle.book.specs.declared.book.Book.{Book}
+use Rattle.delegation.specs.declared.grants.Grant.{Grant}
 use Rattle.register.specs.Shape.{state_of}
 use Rattle.register.specs.State.{empty}
 use Rattle.register.specs.declared.register.Register.{Register}
@@ -39,6 +40,15 @@ pub record RanLine {S : Type 0} (k : Kind S) (n : ℕ) (line : List ℕ) (before
   pub reply : Result ℕ Fault
   pub asked : Asked k (parsed line) before reply after
   pub told : held' ≡ held ++ spoken n reply
+
+-- a grant of nobody's, for a place that holds none: person, step and lot 0, at any strength
+abbrev pub filled_with : {S : Type 0} → S → Grant S
+filled_with strength = record {
+  giver = record { 0 = 0 };
+  receiver = record { 0 = 0 };
+  right = record { step = record { 0 = 0 }; strength = strength };
+  lot = record { 0 = 0 };
+}
 
 -- what a script is answered under a book, by a register in which nothing stood
 pub record Answered {S : Type 0} (k : Kind S) (book : Book S) (script : List ℕ) (text : List ℕ) : Type 0 where

@@ -1,12 +1,12 @@
 // Why a line is refused.
-ghost use Rattle.std.specs.Prelude.{◌≡◌};
+ghost use Rattle.std.specs.Prelude.{◌≡◌, ℕ};
 ghost use Rattle.script.specs.declared.faults.Fault.TheVariants.{OfRegister, OfScript};
 ghost use Rattle.script.specs.Faults.{number, number_of, place_of};
 
 use register::RegisterFault;
 
 /// What is wrong with a script, a line of it or a buffer. Each cause has the number that is told of it.
-#[derive(Clone, Copy, Debug, PartialEq, Eq)]
+#[derive(Clone, Copy, Debug, PartialEq, Eq, PartialOrd, Ord, Hash)]
 pub enum Cause {
     /// The letter is missing or unknown.
     UnknownLetter = 40,
@@ -65,6 +65,32 @@ impl From<RegisterFault> for Fault {
 
     fn from(fault: RegisterFault) -> Fault {
         Fault::OfRegister(fault)
+    }
+}
+
+/// A refusal that is told by a number and a place.
+pub trait ToldByNumber: Copy {
+    ghost told: { Self → ℕ × ℕ };
+
+    fn told(self) -> (u8, usize)
+        ensures { result ≡ told self };
+}
+
+impl ToldByNumber for Fault {
+    ghost told = { λ f. (number_of f, place_of f) };
+
+    fn told(self) -> (u8, usize) {
+        (self.number(), self.place())
+    }
+}
+
+/// Whatever number and place are told, so also those of no layer here.
+impl ToldByNumber for (u8, usize) {
+    ghost told = { λ t. t };
+
+    fn told(self) -> (u8, usize) {
+        let (number, place) = self;
+        (number, place)
     }
 }
 

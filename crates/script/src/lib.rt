@@ -9,9 +9,10 @@ mod lines;
 mod output;
 mod parsing;
 mod runs;
+mod texts;
 mod whole;
 
-pub use faults::{Cause, Fault, LineFault, Refusal};
+pub use faults::{Cause, Fault, LineFault, Refusal, ToldByNumber};
 pub use lines::{LINE_BUFFER, Told, obey_line};
 pub use parsing::parse;
 pub use runs::{LONGEST_SCRIPT, run, tell_refusal};

@@ -48,9 +48,10 @@ pub fn obey_line<'b, 'g, 'r, S: Strength>(
         });
     }
     let told = ask(register, line);
-    let text = output_line(number, told);
+    let output = output_line(number, told);
+    let text = output.as_bytes();
     let length = text.len();
-    out[..length].copy_from_slice(text.as_bytes());
+    out[..length].copy_from_slice(text);
     let fault = told.err().map(|fault| LineFault {
         line: number,
         fault,

@@ -1,38 +1,44 @@
 // Output lines.
-ghost use Rattle.std.specs.Prelude.{◌≡◌};
+ghost use Rattle.std.specs.Prelude.{◌≡◌, drop, Ok as Answered};
 ghost use Rattle.script.specs.Lines.{spoken};
+ghost use Rattle.script.specs.Output.{refused};
 
-use crate::faults::Fault;
-use arrayvec::ArrayString;
-use itoa::Buffer;
+use crate::faults::{Fault, ToldByNumber};
+use crate::texts::LineEnd;
 
-/// Room for any output line: three numbers of at most 20 digits, a word of two letters, three spaces, the byte at the end.
-const LONGEST_OUTPUT: usize = 66;
+/// The output line of an answer.
+#[tactic(auto, using(crate::proofs::Spoken::ok_line))]
+fn answered_line(number: usize, answer: u64) -> LineEnd
+    ensures { drop result.start result.bytes ≡ spoken number (Answered answer) }
+{
+    let mut line = LineEnd::new();
+    line.prepend_number(answer);
+    line.prepend_word(b" ok ");
+    line.prepend_number(number as u64);
+    line
+}
 
-/// An output line, in the value itself.
-pub(crate) type OutputLine = ArrayString<LONGEST_OUTPUT>;
+/// The output line of a refusal, which is told by its number and its place.
+#[tactic(auto, using(crate::proofs::Spoken::no_line))]
+pub(crate) fn refusal_line(number: usize, told: (u8, usize)) -> LineEnd
+    ensures { drop result.start result.bytes ≡ refused number told }
+{
+    let (refused_by, place) = told;
+    let mut line = LineEnd::new();
+    line.prepend_number(place as u64);
+    line.prepend_word(b" ");
+    line.prepend_number(u64::from(refused_by));
+    line.prepend_word(b" no ");
+    line.prepend_number(number as u64);
+    line
+}
 
 /// The output line of a script's line: the line's number, and what is told of its call.
-// The parts are pushed, since `write!` does not promise that a text which fits is written.
-#[tactic(auto, using(crate::proofs::Spoken::ok_line, crate::proofs::Spoken::no_line))]
-pub(crate) fn output_line(number: usize, told: Result<u64, Fault>) -> OutputLine
-    ensures { result.bytes ≡ spoken number told }
+pub(crate) fn output_line(number: usize, told: Result<u64, Fault>) -> LineEnd
+    ensures { drop result.start result.bytes ≡ spoken number told }
 {
-    let mut text = OutputLine::new();
-    let mut digits = Buffer::new();
-    text.push_str(digits.format(number));
     match told {
-        Ok(answer) => {
-            text.push_str(" ok ");
-            text.push_str(digits.format(answer));
-        }
-        Err(fault) => {
-            text.push_str(" no ");
-            text.push_str(digits.format(fault.number()));
-            text.push_str(" ");
-            text.push_str(digits.format(fault.place()));
-        }
+        Ok(answer) => answered_line(number, answer),
+        Err(fault) => refusal_line(number, fault.told()),
     }
-    text.push_str("\n");
-    text
 }

@@ -1,12 +1,12 @@
 // A whole script.
-ghost use Rattle.std.specs.Prelude.{◌≡◌, ◌++◌, Err as Refused, OnOk};
-ghost use Rattle.script.specs.Lines.{spoken};
+ghost use Rattle.std.specs.Prelude.{◌≡◌, ◌++◌, OnOk};
+ghost use Rattle.script.specs.Output.{refused};
 ghost use Rattle.script.specs.Runs.{RanLine, RanScript};
 
 use crate::cuts::Lines;
-use crate::faults::{Cause, Fault};
+use crate::faults::{Cause, Fault, ToldByNumber};
 use crate::lines::ask;
-use crate::output::output_line;
+use crate::output::{output_line, refusal_line};
 use register::Register;
 use std::alloc::AllocError;
 use strength::Strength;
@@ -15,10 +15,10 @@ use strength::Strength;
 pub const LONGEST_SCRIPT: usize = 65_536;
 
 /// Appends the one line that says that a whole script, or its book, is refused: line 0.
-pub fn tell_refusal(fault: Fault, output: &mut Vec<u8>) -> Result<(), AllocError>
-    ensures { OnOk result (output.new.items ≡ output.old.items ++ spoken 0 (Refused fault)) }
+pub fn tell_refusal<F: ToldByNumber>(fault: F, output: &mut Vec<u8>) -> Result<(), AllocError>
+    ensures { OnOk result (output.new.items ≡ output.old.items ++ refused 0 (F.told fault)) }
 {
-    output.extend_from_slice(output_line(0, Err(fault)).as_bytes())
+    output.extend_from_slice(refusal_line(0, fault.told()).as_bytes())
 }
 
 // The loans of the arrays are told in clauses of their own, since they last where memory runs out, and nothing else is told then.

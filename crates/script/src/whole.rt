@@ -1,6 +1,6 @@
 // A script under a book, from nothing to its last output line.
-ghost use Rattle.std.specs.Prelude.{IfOk};
-ghost use Rattle.script.specs.Runs.{Answered};
+ghost use Rattle.std.specs.Prelude.{◌≡◌, IfOk};
+ghost use Rattle.script.specs.Runs.{Answered, filled_with};
 
 use crate::runs::run;
 use book::{Book, Lot, Person, Step};
@@ -10,7 +10,9 @@ use std::alloc::{AllocError, Global};
 use strength::Strength;
 
 /// A grant that nobody made, for the places of an array that hold none.
-fn filling<S: Strength>(strength: S) -> Grant<S> {
+fn filling<S: Strength>(strength: S) -> Grant<S>
+    ensures { result ≡ filled_with strength }
+{
     let right = Right {
         step: Step::default(),
         strength,

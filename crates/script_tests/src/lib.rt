@@ -10,6 +10,8 @@ mod lines;
 #[cfg(test)]
 mod malaxer;
 #[cfg(test)]
+mod refusals;
+#[cfg(test)]
 mod rights;
 #[cfg(test)]
 mod support;
