@@ -4,4 +4,5 @@
 mod failure;
 mod work;
 
+pub use failure::Failure;
 pub use work::serve;

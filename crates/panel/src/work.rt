@@ -5,7 +5,6 @@ use files::{file_or_none, input};
 use script::{Fault, LONGEST_SCRIPT, answers, tell_refusal};
 use std::alloc::AllocError;
 use std::io::Write;
-use std::process::ExitCode;
 use strength::Strength;
 
 // With one byte more a book is known to be too long.
@@ -40,13 +39,11 @@ fn print<S: Strength>(rt: &HostRuntime, path: &str, filler: S) -> Result<(), Fai
 
 /// Answers the script on standard input under the book at this path. The filler is any strength of the line's kind: it
 /// stands in places of the arrays that hold no grant yet.
-pub fn serve<S: Strength>(rt: &HostRuntime, path: &str, filler: S) -> ExitCode {
-    match print(rt, path, filler) {
-        Ok(()) => ExitCode::SUCCESS,
-        Err(failure) => {
-            // Where standard error fails too, the status is all that is left to say it.
-            let _ = eprintln!(rt; "{failure}");
-            ExitCode::FAILURE
-        }
+pub fn serve<S: Strength>(rt: &HostRuntime, path: &str, filler: S) -> Result<(), Failure> {
+    let end = print(rt, path, filler);
+    if let Err(failure) = &end {
+        // Where standard error fails too, what is answered is all that is left to say it.
+        let _ = eprintln!(rt; "{failure}");
     }
+    end
 }

@@ -7,5 +7,5 @@ use strength::{Count, Marks, Reach};
 
 fn main(rt: HostRuntime) -> ExitCode {
     let filler = Reach::new(Count(0), Marks(0)).unwrap();
-    serve(&rt, "press.book", filler)
+    serve(&rt, "press.book", filler).map_or(ExitCode::FAILURE, |()| ExitCode::SUCCESS)
 }
