@@ -1,13 +1,13 @@
--- What an exact table tells of any two numbers.
+-- What a table that tells the rows tells of any two numbers.
 use Rattle.std.proofs.Common.{◌≡◌, ℕ, ◌<◌, ◌≤◌, Bool, true, ◌⊎◌, List, [], ◌∷◌, Decides, refl, subst, inl, inr, ⊎_elim, arith}
 use mathlib.Core.Bool.{Bool-set}
 use mathlib.Core.HLevel.{⊥_prop}
 use mathlib.Core.List.Memᴰ
 use mathlib.Core.Logic.{∥∥₁_elim, ∥∥₁_map}
 use Rattle.std.proofs.lemmas.Bool.{cases_eq}
-use Rattle.book.specs.Covering.{Covers, itself, onward, CoveringExact, StepsInRange}
+use Rattle.book.specs.Covering.{Covers, itself, onward, StepsInRange, TellsCovering}
 use Rattle.book.specs.Flags.{flag_at}
-use Rattle.book.specs.Playing.{Plays, PlayingExact}
+use Rattle.book.specs.Playing.{Plays, TellsPlaying}
 use Rattle.book.specs.declared.rows.Cover.{Cover}
 use Rattle.book.specs.declared.rows.Play.{Play}
 use Rattle.book.proofs.Walks.{covers_out}
@@ -16,9 +16,9 @@ use Rattle.book.proofs.Walks.{covers_out}
 decides_out : {P : Type 0} (r : Bool) → (∥ P ∥₁ → P) → ∥ Decides r P ∥₁ → Decides r P
 decides_out r out d = ((λ e. out (∥∥₁_map d (λ s. s.0 e))), (λ p. ∥∥₁_elim d (Bool-set r true) (λ s. s.1 p)))
 
-pub covering_told : (rows : List Cover) (table : List (List Bool)) → CoveringExact rows table → (a b : ℕ) → a < 64 → b < 64 → Decides (flag_at table a b) (Covers rows a b)
-covering_told rows table exact a b lta ltb =
-    decides_out _ (covers_out rows a b) (∥∥₁_map exact.2 (λ told. told a b lta ltb))
+pub covering_told : (rows : List Cover) (table : List (List Bool)) → ∥ TellsCovering rows table ∥₁ → (a b : ℕ) → a < 64 → b < 64 → Decides (flag_at table a b) (Covers rows a b)
+covering_told rows table tells a b lta ltb =
+    decides_out _ (covers_out rows a b) (∥∥₁_map tells (λ told. told a b lta ltb))
 
 -- a step and what it covers are the same or both in range
 covers_range : (rows : List Cover) → StepsInRange rows → (a b : ℕ) → Covers rows a b → (a ≡ b) ⊎ ((a < 64) × (b < 64))
@@ -68,6 +68,6 @@ plays_or_not u p (row ∷ rows) =
 plays_out : (rows : List Play) (u p : ℕ) → ∥ Plays rows u p ∥₁ → Plays rows u p
 plays_out rows u p some = elim (plays_or_not u p rows) [ inl w ↦ w | inr none ↦ absurd (∥∥₁_elim some ⊥_prop none) ]
 
-pub playing_told : (rows : List Play) (table : List (List Bool)) → PlayingExact rows table → (u p : ℕ) → u < 256 → p < 64 → Decides (flag_at table u p) (Plays rows u p)
-playing_told rows table exact u p ltu ltp =
-    decides_out _ (plays_out rows u p) (∥∥₁_map exact.2 (λ told. told u p ltu ltp))
+pub playing_told : (rows : List Play) (table : List (List Bool)) → ∥ TellsPlaying rows table ∥₁ → (u p : ℕ) → u < 256 → p < 64 → Decides (flag_at table u p) (Plays rows u p)
+playing_told rows table tells u p ltu ltp =
+    decides_out _ (plays_out rows u p) (∥∥₁_map tells (λ told. told u p ltu ltp))

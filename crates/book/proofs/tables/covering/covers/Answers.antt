@@ -6,7 +6,7 @@ use Rattle.book.proofs.tables.covering.covers.Goals as goal
 
 pub returns-then-b-lt-MOST_STEPS : goal.returns-then-b-lt-MOST_STEPS
 returns-then-b-lt-MOST_STEPS c rows exact =
-    let t = covering_told rows c.args.table.now exact c.args.stronger.0 c.args.weaker.0 c.if-a-lt-MOST_STEPS.true c.if-b-lt-MOST_STEPS.true in search rules
+    let t = covering_told rows c.args.table.now exact.2 c.args.stronger.0 c.args.weaker.0 c.if-a-lt-MOST_STEPS.true c.if-b-lt-MOST_STEPS.true in search rules
 
 pub returns-else-a-lt-MOST_STEPS : goal.returns-else-a-lt-MOST_STEPS
 returns-else-a-lt-MOST_STEPS c rows exact =

@@ -5,4 +5,4 @@ use Rattle.book.proofs.tables.playing.plays.Goals as goal
 
 pub returns-then-p-lt-MOST_POSTS : goal.returns-then-p-lt-MOST_POSTS
 returns-then-p-lt-MOST_POSTS c rows exact =
-    let t = playing_told rows c.args.table.now exact c.args.person.0 c.args.post.0 c.if-p-lt-MOST_POSTS.true.0 c.if-p-lt-MOST_POSTS.true.1 in search rules
+    let t = playing_told rows c.args.table.now exact.2 c.args.person.0 c.args.post.0 c.if-p-lt-MOST_POSTS.true.0 c.if-p-lt-MOST_POSTS.true.1 in search rules
